@@ -52,7 +52,7 @@ first_alike P (x ∷ xs) (suc n) h = (h.0, first_alike P xs n h.1)
 module _ (problem : Problem) (place : ℕ) (c d : List Sym) (a : AreAlike problem place c d) where
   pub moved_alike : (r : ℕ) (k : PrefixKind) → next_kind problem r k c ≡ next_kind problem r k d
   moved_alike r k =
-      let first : AllByRecursion (IsNextAlike c d) (stretches problem r) = stretches_alike _ r c d a.constraints in
+      let first = stretches_alike _ r c d a.constraints in
       let of : Bool → List Bool → List Phase
       → PrefixKind = λ e bs ps. record { place = k.place + cond e 1 0; opened = bs; phases = ps } in
       ap (λ e. of e (map (λ t. opens (symbol c t)) problem.tiers.free) (next_phases (stretches problem r) k.phases c))

@@ -143,7 +143,7 @@ module _ (arcs others : List ArcLine) (column : List Sym) (one : HasOneTarget ar
   unlike xs ys only h (Some m) (Some n) a b e =
       let arc = unmatched_to xs ys _ h in
       let own : IsListedTarget xs column (Some arc.0.target) = (arc.0, (arc.1.0, arc.1.1.0, refl)) in
-      let same : n ≡ arc.0.target = ap (λ o. unwrap_or o 0) (sym e) ∙ only m arc.0.target a own in
+      let same = ap (λ o. unwrap_or o 0) (sym e) ∙ only m arc.0.target a own in
       true≢false (sym (led_from ys _ _ (rw same at b)) ∙ arc.1.1.1)
 
   pub targets_differ : do_differ arcs others column ≡ true → (s t : Option ℕ) → IsListedTarget arcs column s

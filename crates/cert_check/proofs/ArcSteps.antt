@@ -54,7 +54,7 @@ node_of_number problem nodes n k e = own _ refl
         ∙ sym (slice_get-map (λ (node : Node). kind_of_bits problem (last_stage problem) node.kind) nodes n) ∙ e
 
     own : (o : Option Node) → slice_get nodes n ≡ o → IsNodeOf problem nodes n k
-    own None f = let no : None ≡ Some k = told _ f in cc
+    own None f = let no = told _ f in cc
     own (Some node) f = record { node = node; numbered = f; tells = some_same (told _ f) }
 
 module _ (s : Subject) (k : PrefixKind) (pieces : List KeptPiece) (arcs : List ArcLine)
@@ -80,10 +80,9 @@ module _ (s : Subject) (k : PrefixKind) (pieces : List KeptPiece) (arcs : List A
       → IsKeptTarget (problem_of s) s.answer.now k column (Some arc.target)
   arc_to column arc h holds =
       let a = arc_of _ h in
-      let held : IsTrue (has a.piece.class column) = ap (λ c. has c column) (sym a.same_class) ∙ holds in
+      let held = ap (λ c. has c column) (sym a.same_class) ∙ holds in
       let m = contains_map _ _ _ a.of in
-      let own : IsKeptPiece problem last k a.piece = All-contains
-      (IsKeptPiece problem last k) pieces a.piece kept.each a.of in (
+      let own = All-contains (IsKeptPiece problem last k) pieces a.piece kept.each a.of in (
         (kept.columns column).0 (list_any_at (λ c. has c column) (kept_classes pieces) m.0 a.piece.class m.1
             (ap (λ c. has c column) m.2 ∙ held)),
         node_of_number _ _ _ _ (a.leads ∙ ap (λ (x : PrefixKind). Some x) (own.leads column held).tells),
@@ -91,10 +90,10 @@ module _ (s : Subject) (k : PrefixKind) (pieces : List KeptPiece) (arcs : List A
 
   kept_to : (column : List Sym) → Kept column → (m : ℕ) × IsListedTarget arcs column (Some m)
   kept_to column h =
-      let some : some_has (arc_classes arcs) column ≡ some_has (kept_classes pieces) column =
+      let some =
       ap (λ cs. some_has cs column) are.classes in
       let there = arc_there _ _ (some ∙ (kept.columns column).1 h) in
-      let arc : ArcLine = there.1.0 in (
+      let arc = there.1.0 in (
         arc.target,
         (
           arc,
@@ -121,7 +120,7 @@ module _ (s : Subject) (k : PrefixKind) (pieces : List KeptPiece) (arcs : List A
     listed_from column (Some m) h =
         let to = kept_to _ h.0 in
         let there = arc_to _ _ to.1.1.0 to.1.1.1 in
-        let same : to.0 ≡ m = sym to.1.1.2 ∙ one_number _ _ ascending _ _ m there.1 h.1 in
+        let same = sym to.1.1.2 ∙ one_number _ _ ascending _ _ m there.1 h.1 in
         rw same at to.1
     listed_from column None none = λ arc h holds. none (arc_to _ _ h holds).0
 

@@ -219,8 +219,8 @@ module _ (problem : Problem) (answer : Answer) (faultless : IsFaultless problem 
         → p ≡ start_potential answer.counts.items r
     start p lists =
         let zero = node_at problem _ r in_stages 0 (slice_get_within kinds 0 (kind_of problem r []) first) in
-        let tells : told zero.0 ≡ kind_of problem r [] = sym (kind_at problem _ r in_stages 0 _ zero.1) ∙
-        get_or_from_slice_get kinds 0 (kind_of problem r []) (kind_of problem r []) first in
+        let tells = sym (kind_at problem _ r in_stages 0 _ zero.1) ∙ get_or_from_slice_get kinds 0
+        (kind_of problem r []) (kind_of problem r []) first in
         one_potential _ r _ ascending _ p _ lists (record {
           node = zero.0;
           listed = contains_numbered _ 0 _ zero.1.numbered;
@@ -251,8 +251,7 @@ module _ (problem : Problem) (answer : Answer) (faultless : IsFaultless problem 
           sym lists.potential ∙ final numbered.0 lists.node numbered.1
           (subst (λ x. IsTrue (is_final problem x)) (sym lists.tells) h);
       goes_on = λ k p column lists kept. let numbered = has_number lists.node lists.listed in
-          let stays : IsKeptBelow problem answer.stages.items r (told lists.node) column = subst
-          (λ x. IsKeptBelow problem answer.stages.items r x column) (sym lists.tells) kept in
+          let stays = subst (λ x. IsKeptBelow problem answer.stages.items r x column) (sym lists.tells) kept in
           let next = listed numbered.0 lists.node numbered.1 column stays in
           subst (λ x. (q : ℕ) × (Lists problem answer.stages.items r (next_kind problem r x column) q
           × (p ≤ cost_of problem r x column + q))) lists.tells (

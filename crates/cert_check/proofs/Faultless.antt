@@ -54,10 +54,10 @@ module _ (problem : Problem) (answer : Answer) where
     pub node_in_order : (n : ℕ) (node : Node) → HasNode answer r n node
         → IsInOrder problem answer.stages.items r n (kind_of_bits problem r node.kind)
     node_in_order n node h =
-        let kinds : List PrefixKind = kinds_at problem r (nodes_at answer.stages.items r) in
-        let k : PrefixKind = kind_of_bits problem r node.kind in
-        let here : slice_get kinds n ≡ Some k = node_kind r n _ h in
-        let member : Contains kinds k = contains_numbered _ n k here in
+        let kinds = kinds_at problem r (nodes_at answer.stages.items r) in
+        let k = kind_of_bits problem r node.kind in
+        let here = node_kind r n _ h in
+        let member = contains_numbered _ n k here in
         record {
           possible = All-contains (IsPossibleKind problem r) kinds k certified.kinds member;
           after = λ l some e. rw (get_or_from_slice_get kinds (n - 1) l k e) at (rw
@@ -89,13 +89,12 @@ module _ (problem : Problem) (answer : Answer) where
     no_high_potential n column listed allowed h =
         let next = certified.goes_on (kind_of_bits problem r h.node.kind) h.node.potential column
         (node_lists r n _ h.is) h.kept in
-        let same : next.0 ≡ h.next = one_potential _ r _ certified.ascending _ _ _ next.1.0 h.leads in
+        let same = one_potential _ r _ certified.ascending _ _ _ next.1.0 h.leads in
         omega (arith, next.1.1, same, h.listed_is, h.allowed_is, h.above)
 
     no_wrong_start : (listed count : ℕ) → HasWrongStart answer r listed count → ⊥
     no_wrong_start listed count h =
-        let start : kind_of_bits problem r h.node.kind ≡ kind_of problem r [] = some_same
-        (sym (node_kind r 0 _ h.is) ∙ certified.first) in
+        let start = some_same (sym (node_kind r 0 _ h.is) ∙ certified.first) in
         h.differs
         (h.listed_is ∙ certified.start h.node.potential (rw start at (node_lists r 0 _ h.is)) ∙ sym h.count_is)
 
@@ -118,13 +117,12 @@ module _ (problem : Problem) (answer : Answer) where
 
     no_twice : (state : ℕ) (column : List Sym) → HasTwice answer state column → ⊥
     no_twice state column h =
-        let arcs : List ArcLine = h.line.arcs.items in
-        let apart : AllPairs (λ (a b : ArcLine). AreDisjoint a.class b.class) arcs =
+        let arcs = h.line.arcs.items in
+        let apart =
         All-contains (λ (line : StateLine). AllPairs
         (λ (a b : ArcLine). AreDisjoint a.class b.class) line.arcs.items) answer.automaton.states.items h.line
         certified.once h.is.listed in
-        let later : get_or arcs h.second h.first_arc
-        ≡ h.second_arc = get_or_from_slice_get arcs h.second h.second_arc h.first_arc h.second_is in
+        let later = get_or_from_slice_get arcs h.second h.second_arc h.first_arc h.second_is in
         apart h.first h.second h.first_arc h.ascending (slice_get_within arcs h.second h.second_arc h.second_is) column
         (ap (λ (a : ArcLine). has a.class column)
         (get_or_from_slice_get arcs h.first h.first_arc h.first_arc h.first_is) ∙ h.in_first)
@@ -156,8 +154,7 @@ module _ (problem : Problem) (answer : Answer) where
       one_target_kept (Some m) None h k = absurd (k (kept_by_arc _ h.1.0 h.1.1).0)
       one_target_kept None (Some m) h k =
           let arc = (certified.arcs state m kind column (state_number _ _ is) of_kind).1 (k.0, k.1) in
-          let same : arc.state ≡ line = one_state _ states.ascending _ _ arc.listed is.listed
-          (arc.from ∙ sym is.numbered) in
+          let same = one_state _ states.ascending _ _ arc.listed is.listed (arc.from ∙ sym is.numbered) in
           absurd (h arc.arc (rw same at arc.leaves) arc.holds)
       one_target_kept (Some m) (Some l) h k =
           let by = kept_by_arc _ h.1.0 h.1.1 in
@@ -181,8 +178,8 @@ module _ (problem : Problem) (answer : Answer) where
 
     no_missing_stage : (listed wanted : ℕ) → LacksStage problem answer listed wanted → ⊥
     no_missing_stage listed wanted h =
-        let counted : length answer.counts.items ≡ last_stage problem = ap length certified.counts
-        ∙ length-map problem.constraints (λ c. violations_of c answer.example) in
+        let counted = ap length certified.counts ∙ length-map problem.constraints (λ c. violations_of c answer.example)
+        in
         elim h.listed_is [
           | inl e ↦ h.differs (e ∙ certified.stage_count ∙ sym h.wanted_is)
           | inr e ↦ h.differs (omega (arith, e.1, counted, h.wanted_is))

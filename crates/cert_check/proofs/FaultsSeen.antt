@@ -83,7 +83,7 @@ same_stage s = same_count _ _ s.asked
 same_kinds : (s : Two) (r : ℕ)
     → kinds_at (here s) r (nodes_at s.a.stages.items r) ≡ kinds_at (there s) r (nodes_at s.b.stages.items r)
 same_kinds s r =
-    let by : List NodeValue → List PrefixKind = map (λ (v : NodeValue). v.kind) in
+    let by = map (λ (v : NodeValue). v.kind) in
     sym (map-map (λ (v : NodeValue). v.kind) (node_seen (here s) r) (nodes_at s.a.stages.items r)) ∙ ap by
     (s.seen.nodes r) ∙ map-map (λ (v : NodeValue). v.kind) (node_seen (here s) r) (nodes_at s.b.stages.items r) ∙ ap
     (λ n. map (λ (node : Node). prefix_kind (length s.base.tiers.free) n node.kind) (nodes_at s.b.stages.items r))
@@ -323,10 +323,9 @@ lacks_state s state target place (inr h) = inr (h.0, (lacks_target s _ _ _ h.1.0
 
 node_of : (s : Two) (n : ℕ) (k : PrefixKind) → IsKindOfState (here s) s.a n k → IsKindOfState (there s) s.b n k
 node_of s n k h =
-    let last : ℕ = last_stage (here s) in
+    let last = last_stage (here s) in
     let found = at_number _ _ _ (s.seen.nodes last) n _ h.numbered in
-    let told : kind_of_bits (there s) last found.0.kind ≡ k = sym (same_told s _ found.0.kind) ∙ ap
-    (λ (v : NodeValue). v.kind) found.1.1 ∙ h.tells in record {
+    let told = sym (same_told s _ found.0.kind) ∙ ap (λ (v : NodeValue). v.kind) found.1.1 ∙ h.tells in record {
       node = found.0;
       numbered = subst (λ r. slice_get (nodes_at s.b.stages.items r) n ≡ Some found.0) (same_stage s) found.1.0;
       tells = subst (λ r. kind_of_bits (there s) r found.0.kind ≡ k) (same_stage s) told;

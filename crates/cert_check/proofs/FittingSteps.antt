@@ -72,7 +72,7 @@ module _ (problem : Problem) (k : PrefixKind) (coming still bare : Class) (mask 
       let s = (and_parts (has still column) (not (has bare column)) h).0 in
       let parts = and_parts (has coming column) (not (is_read column)) (sym (has_still column) ∙ s) in
       let w = width_of_column _ parts.0 in
-      let edge : has_edge column ≡ true = ⊎_elim (λ y. y) (λ none. absurd (both_ways _
+      let edge = ⊎_elim (λ y. y) (λ none. absurd (both_ways _
       (not-true (has bare column) (and_parts (has still column) (not (has bare column)) h).1)
       ((has_bare column w).1 (λ t l. ap not (each_edgeless _ none t (omega (arith, w, l)))))))
       (cases_Bool (has_edge column)) in

@@ -37,7 +37,7 @@ pub flagged_more : (f : ℕ → Bool) (kinds : List TierKind) (tier free mask mo
     → more < 2 ^ (free + 1) → has_tier more free ≡ f tier
     → ((t : ℕ) → t < free → has_tier more t ≡ has_tier mask t) → AreFlagged f kinds (tier + 1) (free + 1) more
 flagged_more f kinds tier free mask more d a l h within here others =
-    let same : open_tiers free mask ≡ open_tiers free more =
+    let same =
     fill_by_all (has_tier more) (open_tiers free mask) free false (length-map-range_with_len (has_tier mask) 0 free)
     (λ k b. get_or-map-range_with_len (has_tier mask) 0 free k k false b (omega arith) ∙ sym (others k b)) in
     record {

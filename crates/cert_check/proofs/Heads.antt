@@ -62,8 +62,8 @@ module _ (problem : Problem) (answer : Answer) where
       → IsFirstFault problem answer (CountsDiffer (place + 1) (get_or answer.counts.items place 0)
       (get_or (counts_on problem answer.example) place 0))
   first_counts_at form numbers example place within differs first =
-      let listed : List ℕ = answer.counts.items in
-      let counted : List ℕ = counts_on problem answer.example in
+      let listed = answer.counts.items in
+      let counted = counts_on problem answer.example in
       first_fault _ _ _ _ (
         record {
           some = omega arith;

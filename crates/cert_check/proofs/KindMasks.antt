@@ -9,7 +9,7 @@ use Rattle.cert_check.specs.Faults.{TellsKind}
 pub some_told : (problem : Problem) (stage : ℕ) (k : PrefixKind) → length k.opened ≡ length problem.tiers.free
     → length k.phases ≡ length (stretches problem stage) → (kind : Kind) × TellsKind problem stage kind k
 some_told problem stage k free count =
-    let told : (kind : Kind) × AreBitsOf (length problem.tiers.free) (length (stretches problem stage)) k kind =
+    let told =
     kind_for _ _ k free count in
     (told.0, record { tells = told.1.tells; opened = told.1.opened; stretches = told.1.stretches })
 

@@ -53,18 +53,18 @@ module _ (s : Subject) (ready : IsReady s) (stage : ℕ) (within : stage ≤ las
       → b ≡ costs c.family c.left c.right (has_tier mask) phase column)
       → cond b 1 0 ≡ cost_of (problem_of s) stage (kind_of_bits (problem_of s) stage kind) column
   cost_told kind column mask place c is_unmet b some fits at bits is count unmet on =
-      let number : ℕ = stage - 1 in
+      let number = stage - 1 in
       let cs = (problem_of s).constraints in
       let k = kind_of_bits (problem_of s) stage kind in
       let ph = first_phase (drop place k.phases) in
       let over = over_at number c (omega arith) is in
       let size = length-take stage cs in
-      let here : c ≡ get_or (take stage cs) number c = is ∙ sym (get_or-take stage cs number c (omega arith)) in
-      let before : place ≡ length (filter is_stretch (take number (take stage cs))) =
+      let here = is ∙ sym (get_or-take stage cs number c (omega arith)) in
+      let before =
       count ∙ get_or_default s.shape.now.phases.items number place 0 (stage_in s ready number (omega arith))
       ∙ stretch_same s ready number (omega arith)
       ∙ ap (λ xs. length (filter is_stretch xs)) (sym (take-take number stage cs (omega arith))) in
-      let below : kind.unmet < 2 ^ length (stretches (problem_of s) stage) =
+      let below =
       subst (λ n. kind.unmet < 2 ^ n) (stretch_same s ready _ within) fits.stretches.unmet in
       ap (λ x. cond x 1 0)
       (on ph (unmet ∙ unmet_told kind (length (stretches (problem_of s) stage)) place below)

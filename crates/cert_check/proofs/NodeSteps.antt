@@ -96,14 +96,14 @@ module _ (problem : Problem) (answer : Answer) (stage n : ℕ) (node : Node) (is
           f.unlisted next (rw (one_node answer stage n node f.node is f.is) at (listed_at _ h))
       none_wrong ascends low column h (inr w) =
           let f = w.1.1 in
-          let same : f.node ≡ node = one_node _ _ n _ _ f.is is in
+          let same = one_node _ _ n _ _ f.is is in
           let to : Lists problem answer.stages.items stage
           (next_kind problem stage (kind_of_bits problem stage node.kind) column) f.next =
           rw same at f.leads in
-          let one : f.next ≡ next = one_potential _ _ _ ascends _ _ _ to (listed_at _ h) in
-          let here : cost_of problem stage (kind_of_bits problem stage f.node.kind) column ≡ cost =
+          let one = one_potential _ _ _ ascends _ _ _ to (listed_at _ h) in
+          let here =
           ap (λ (x : Node). cost_of problem stage (kind_of_bits problem stage x.kind) column) same ∙ costs column h in
-          let potential : f.node.potential ≡ node.potential = ap (λ (x : Node). x.potential) same in
+          let potential = ap (λ (x : Node). x.potential) same in
           omega (arith, f.above, f.listed_is, f.allowed_is, one, here, potential, low)
 
 -- ---- the least column with a wrong move
@@ -169,9 +169,8 @@ module _ {problem : Problem} {answer : Answer} {stage n : ℕ} {classes : List C
             λ b.
                 let mine = at_next (λ c. IsBefore (column_place (first_column c))
                 (column_place (first_column first))) d before in
-                let best_is : first ≡ get_or classes best d = f ∙ get_or_default classes best first d some in
-                let mine : IsBefore (column_place (first_column (get_or classes next d)))
-                (column_place (first_column (get_or classes best d))) =
+                let best_is = f ∙ get_or_default classes best first d some in
+                let mine =
                 subst (λ c. IsBefore (column_place (first_column (get_or classes next d)))
                 (column_place (first_column c))) best_is mine in
                 ⊎_elim (λ x. later.1 x) (λ x. not_both_before _ _ x mine) (before_or _ _ _ b),
@@ -193,7 +192,7 @@ module _ {problem : Problem} {answer : Answer} {stage n : ℕ} {classes : List C
       wrong = so_far.wrong;
       others = λ m d l. ⊎_elim (λ below. so_far.others m d below)
           (λ above. let same : next ≡ m = omega arith in
-          let best_is : first ≡ get_or classes best d = f ∙ get_or_default classes best first d some in
+          let best_is = f ∙ get_or_default classes best first d some in
           inr (
             some,
             subst (λ i. IsNotAfter (get_or classes best d) (get_or classes i d)) same
@@ -239,9 +238,9 @@ module _ {problem : Problem} {answer : Answer} {stage n : ℕ} {classes : List C
         here : (rest : List ℕ) → InNode problem answer stage n 1 rest
             → IsBefore rest (column_place (first_column class)) → ⊥
         here rest w b =
-            let column : List Sym = w.0 in
+            let column = w.0 in
             let i = some_index _ _ _ (of_wrong _ w.1.0) in
-            let other : Class = get_or classes i.0 class in
+            let other = get_or classes i.0 class in
             let before : IsBefore (column_place column) (column_place (first_column class)) =
             rw w.1.1 at b in
             ⊎_elim (λ right. right column i.1.1 w.1.0) (λ later. ⊎_elim
@@ -284,8 +283,7 @@ pub piece_at : {problem : Problem} {stages : List Stage} {stage below : ℕ} {k 
 piece_at {problem} {stage = stage} {k = k} {pieces} kept n piece inside is =
     let within : n < length (kept_classes pieces) =
     omega (arith, inside, length-map pieces (λ (p : KeptPiece). p.class)) in
-    let class : piece.class ≡ get_or (kept_classes pieces) n piece.class = ap (λ (p : KeptPiece). p.class) is ∙ sym
-    (get_or-map _ _ n _ piece.class inside) in
+    let class = ap (λ (p : KeptPiece). p.class) is ∙ sym (get_or-map _ _ n _ piece.class inside) in
     record {
       within = within;
       class = class;

@@ -196,9 +196,8 @@ module _ (problem : Problem) (answer : Answer) where
         → HasHighPotential problem answer stage n column listed allowed
         → HasHighPotential problem answer stage n column other more → (listed ≡ other) × (allowed ≡ more)
     one_potential_fault right listed allowed other more a b =
-        let same : a.node ≡ b.node = one_node _ n _ _ a.is b.is in
-        let nexts : a.next ≡ b.next = one_potential _ _ _ (ascends_unless _ _ _ a.is.within right) _ _ _
-        (rw same at a.leads) b.leads in (
+        let same = one_node _ n _ _ a.is b.is in
+        let nexts = one_potential _ _ _ (ascends_unless _ _ _ a.is.within right) _ _ _ (rw same at a.leads) b.leads in (
           a.listed_is ∙ ap (λ (x : Node). x.potential) same ∙ sym b.listed_is,
           a.allowed_is
               ∙ ap₂ (λ (x : Node) (q : ℕ). cost_of problem stage (kind_of_bits problem stage x.kind) column + q)
@@ -251,9 +250,8 @@ module _ (problem : Problem) (answer : Answer) where
     one_lacking : (state arc target other : ℕ) → LacksTarget answer state arc target
         → LacksTarget answer state arc other → target ≡ other
     one_lacking state arc target other a b =
-        let line : a.line ≡ b.line = one_line _ _ _ a.is b.is in
-        let same : a.arc_line ≡ b.arc_line = some_same (sym a.numbered
-        ∙ ap (λ (x : StateLine). slice_get x.arcs.items arc) line ∙ b.numbered) in
+        let line = one_line _ _ _ a.is b.is in
+        let same = some_same (sym a.numbered ∙ ap (λ (x : StateLine). slice_get x.arcs.items arc) line ∙ b.numbered) in
         a.target_is ∙ ap (λ (x : ArcLine). x.target) same ∙ sym b.target_is
 
     one_mark : (state : ℕ) (listed other : Bool) → HasWrongMark problem answer state listed
@@ -298,9 +296,9 @@ module _ (problem : Problem) (answer : Answer) where
         → (listed other kept more : Option ℕ) → HasWrongArcs problem answer state column listed kept
         → HasWrongArcs problem answer state column other more → (listed ≡ other) × (kept ≡ more)
     one_arcs ascending state column once listed other kept more a b =
-        let line : a.line ≡ b.line = one_line state a.line b.line a.is b.is in
-        let kind : a.kind ≡ b.kind = one_kind problem (nodes_at answer.stages.items (last_stage problem)) a.kind
-        b.kind state a.of_kind b.of_kind in (
+        let line = one_line state a.line b.line a.is b.is in
+        let kind = one_kind problem (nodes_at answer.stages.items (last_stage problem)) a.kind b.kind state a.of_kind
+        b.of_kind in (
           one_listed state column b.line b.is once listed other
               (subst (λ (x : StateLine). IsListedTarget x.arcs.items column listed) line a.listed_is) b.listed_is,
           one_kept ascending b.kind column kept more
@@ -312,7 +310,7 @@ module _ (problem : Problem) (answer : Answer) where
         → AtState problem answer state rest f → AtState problem answer state rest g → f ≡ g
     one_in_state state [] f g ascending none a b = absurd a
     one_in_state state (zero ∷ rest) f g ascending none a b =
-        let same : a.0 ≡ b.0 = same_head _ _ _ a.1.1.0 b.1.1.0 in
+        let same = same_head _ _ _ a.1.1.0 b.1.1.0 in
         a.1.1.1.0 ∙ ap (λ n. StateMissing state n) (one_lacking _ _ _ _ (rw same at a.1.1.1.1) b.1.1.1.1) ∙ sym
         b.1.1.1.0
     one_in_state state (suc zero ∷ rest) f g ascending none a b = a.1.0 ∙ ap (λ x. FinalsDiffer state x)
@@ -320,7 +318,7 @@ module _ (problem : Problem) (answer : Answer) where
     one_in_state state (suc (suc zero) ∷ rest) f g ascending none a b = a.1.1 ∙ ap (λ c. ArcsTwice state c)
         (same_column _ _ (sym a.1.0 ∙ b.1.0)) ∙ sym b.1.1
     one_in_state state (suc (suc (suc n)) ∷ rest) f g ascending none a b =
-        let column : a.0 ≡ b.0 = same_column _ _ (sym a.1.0 ∙ b.1.0) in
+        let column = same_column _ _ (sym a.1.0 ∙ b.1.0) in
         let same = one_arcs ascending _ _ (λ w. none b.0 w (inl (omega arith))) _ _ _ _ (rw column at a.1.1.1.1.1)
         b.1.1.1.1.1 in
         a.1.1.1.1.0 ∙ ap₂ (λ c x. ArcsDiffer state c x a.1.1.1.0) column same.0
@@ -338,9 +336,8 @@ module _ (problem : Problem) (answer : Answer) where
     -- the last stage ascends where no node is wrong and no stage is missing
     last_ascends : (n : ℕ) (rest : List ℕ) → IsNothingBefore (suc (suc (suc (suc (suc (suc n))))) ∷ rest) → LastAscends
     last_ascends n rest none =
-        let count : length answer.stages.items ≡ last_stage problem + 1 = so_unless
-        (cases_eq (length answer.stages.items) (last_stage problem + 1))
-        (λ no. none (StageMissing (length answer.stages.items) (last_stage problem + 1)) (1 ∷ [])
+        let count = so_unless (cases_eq (length answer.stages.items) (last_stage problem + 1)) (λ no. none
+        (StageMissing (length answer.stages.items) (last_stage problem + 1)) (1 ∷ [])
         (record { wanted_is = refl; differs = no; listed_is = inl refl }, refl) (inl (omega arith))) in
         ascends_unless _ _ (last_stage problem) (omega (arith, count))
         (λ m w. none (NodeWrong (last_stage problem) m) (at_node (last_stage problem) m) (w, refl) (inl (omega arith)))
@@ -354,7 +351,7 @@ module _ (problem : Problem) (answer : Answer) where
         a.1.1.0 ∙ ap₂ (λ x y. StageMissing x y) same.0 same.1 ∙ sym b.1.1.0
     one_at (suc (suc zero) ∷ rest) f g none a b = a ∙ sym b
     one_at (suc (suc (suc zero)) ∷ rest) f g none a b =
-        let head : a.0 ≡ b.0 = same_head _ _ _ a.1.1.1.0 b.1.1.1.0 in
+        let head = same_head _ _ _ a.1.1.1.0 b.1.1.1.0 in
         let same = one_count _ _ a.1.1.0 b.1.0 b.1.1.0
         (subst (λ n. HasWrongCount problem answer n a.1.0 a.1.1.0) head a.1.1.1.1.1) b.1.1.1.1.1 in
         a.1.1.1.1.0 ∙ ap₂ (λ n x. CountsDiffer n x a.1.1.0) head same.0

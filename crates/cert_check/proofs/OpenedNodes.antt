@@ -13,7 +13,6 @@ pub node_opened : (s : Subject) (stage : ℕ) → IsReady s → stage ≤ last_s
     → HasNode s.answer.now stage n node → node.kind.opened < 2 ^ length (problem_of s).tiers.free
 node_opened s stage ready within n node h =
     let fits = fits_at s ready _ within n _ (slice_get_within (stage_nodes s stage) n node h.numbered) in
-    let here : get_or (stage_nodes s stage) n node ≡ node = get_or_from_slice_get
-    (stage_nodes s stage) n node node h.numbered in
+    let here = get_or_from_slice_get (stage_nodes s stage) n node node h.numbered in
     rw (free_same s ready stage within) at
     (subst (λ (x : Node). x.kind.opened < 2 ^ free_count s.shape.now) here fits.opened)

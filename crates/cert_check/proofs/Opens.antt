@@ -34,7 +34,7 @@ inputs_in (k ∷ ks) zero l h = omega (
   ap {B = ℕ} (λ b. cond b 1 0) h,
 )
 inputs_in (k ∷ ks) (suc t) l h =
-    let rest : inputs_before ks t < length (filter is_input ks) = inputs_in ks t (omega arith) h in
+    let rest = inputs_in ks t (omega arith) h in
     omega (
       arith,
       rest,
@@ -133,7 +133,7 @@ form_open : (width : ℕ) (u : List (List Sym)) (place j : ℕ) → IsWellFormed
 form_open width u zero j form h l = refl
 form_open width u (suc p) j form h l =
     let well = runs_from_well_formed _ (form.each_tier j h) in
-    let size : length (tier_word u j) ≡ length u = length-map u (λ (column : List Sym). symbol column j) in
+    let size = length-map u (λ (column : List Sym). symbol column j) in
     ap is_open (take_word u (suc p) j) ∙ prefix_open (tier_word u j) (suc p) well (omega (arith, size, l)) ∙ open_suc
     false _ p (omega (arith, size, l)) ∙ ap opens (get_or-map _ u p [] Outside (omega (arith, l)))
 
@@ -145,10 +145,8 @@ free_in : (kinds : List TierKind) (t : ℕ) → t < length kinds → not (is_inp
     → t - inputs_before kinds t < length (filter is_free kinds)
 free_in [] t l h = absurd (omega arith)
 free_in (k ∷ ks) t l h =
-    let more : length (filter is_free (take (t + 1) (k ∷ ks)))
-    ≡ length (filter is_free (take t (k ∷ ks))) + cond
-    (is_free (kind_at (k ∷ ks) t)) 1 0 = length-filter_more is_free (k ∷ ks) t Input l in
-    let here : cond (is_free (kind_at (k ∷ ks) t)) 1 0 ≡ 1 = ap {B = ℕ} (λ b. cond b 1 0) h in
+    let more = length-filter_more is_free (k ∷ ks) t Input l in
+    let here = ap {B = ℕ} (λ b. cond b 1 0) h in
     omega (arith, more, here, frees_before (k ∷ ks) t (omega (arith, l)), frees_rise (k ∷ ks) (t + 1))
   where
     counted : (b : Bool) (x : TierKind) (xs ys : List TierKind) → length xs ≤ length ys

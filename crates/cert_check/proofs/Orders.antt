@@ -69,8 +69,7 @@ module _ (s : Subject) (stage : ℕ) where
   pub first_wrong : IsReady s → stage ≤ last_stage problem → (n : ℕ) → n < length (stage_nodes s stage)
       → (IsInOrder problem s.answer.now.stages.items stage n (node_kind s stage n) → ⊥)
       → AreFirstNodesInOrder s stage n → IsFirstInStage problem s.answer.now stage (NodeWrong stage n)
-  first_wrong ready within n l wrong before = let there :
-      (node : Node) × HasNode s.answer.now stage n node = node_there ready within n l in record {
+  first_wrong ready within n l wrong before = let there = node_there ready within n l in record {
         place = 0 ∷ n ∷ [];
         is = (
           record {

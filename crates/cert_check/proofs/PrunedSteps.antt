@@ -34,7 +34,6 @@ pruned_none problem stages below k width tests fitting parts same f t p = record
   alike = λ n d inside c e hc he.
       let wide = p.pieces.one_width n d inside in
       let whole = p.within n d inside in
-      let piece : Class = get_or parts n d in
       record {
         read = of_listed (IsReadAlike problem) fitting whole.whole f.read whole.listed c e
             (whole.within c hc) (whole.within e he);
@@ -55,10 +54,10 @@ parted_next problem stage x width tests pieces parts within is same alike t p = 
   alike = λ n d inside c e hc he.
       let wide = p.pieces.one_width n d inside in
       let whole = p.within n d inside in
-      let piece : Class = get_or parts n d in
-      let so_far : AreAlikeTo problem stage c e = of_listed (IsAlikeTo problem stage) pieces whole.whole alike
-      whole.listed c e (whole.within c hc) (whole.within e he) in
-      let here : AreAlikeFor x c e = t.told c e (same_width (sets_of piece) c hc ∙ wide) (same_width _ e he ∙ wide)
+      let piece = get_or parts n d in
+      let so_far = of_listed (IsAlikeTo problem stage) pieces whole.whole alike whole.listed c e (whole.within c hc)
+      (whole.within e he) in
+      let here = t.told c e (same_width (sets_of piece) c hc ∙ wide) (same_width _ e he ∙ wide)
       (rw t.new_is at (p.uniform n d inside c e hc he)) in
       record {
         read = so_far.read;

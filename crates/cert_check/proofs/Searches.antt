@@ -24,10 +24,8 @@ module _ (kinds : List PrefixKind) (key : PrefixKind) (sorted : IsStrictlySorted
       → i < length kinds → kind_order (get_or kinds i key) key ≡ Greater
   all_above m l e i h k = ⊎_elim
       (λ below.
-      let first : kind_order key (get_or kinds m key) ≡ Less = kind_order_total.antisymm key (get_or kinds m key)
-      ∙ ap ordering_reverse e in
-      let later : kind_order key (get_or kinds i key)
-      ≡ Less = kind_order_total.trans key (get_or kinds m key) (get_or kinds i key) first
+      let first = kind_order_total.antisymm key (get_or kinds m key) ∙ ap ordering_reverse e in
+      let later = kind_order_total.trans key (get_or kinds m key) (get_or kinds i key) first
       (Less-from_sorted kind_order kinds m i key sorted below k) in
       kind_order_total.antisymm (get_or kinds i key) key ∙ ap ordering_reverse later)
       (λ above. let is : i ≡ m = omega arith in ap (λ n. kind_order (get_or kinds n key) key) is ∙ e)
@@ -37,8 +35,7 @@ module _ (kinds : List PrefixKind) (key : PrefixKind) (sorted : IsStrictlySorted
       → ((i : ℕ) → high ≤ i → i < length kinds → kind_order (get_or kinds i key) key ≡ Greater) → Contains kinds key → ⊥
   not_there low high w below above c = ⊎_elim
       (λ l. not_before_itself key (ap (λ k. kind_order k key) (sym c.2) ∙ below c.0 l))
-      (λ g. let greater : kind_order key key ≡ Greater = ap (λ k. kind_order k key) (sym c.2)
-      ∙ above c.0 (omega (arith, w, g)) c.1 in
+      (λ g. let greater = ap (λ k. kind_order k key) (sym c.2) ∙ above c.0 (omega (arith, w, g)) c.1 in
       true≢false (sym (ap is_eq (tied_itself kind_order_total key)) ∙ ap is_eq greater))
       (cases_lt c.0 low)
 

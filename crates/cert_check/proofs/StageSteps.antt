@@ -100,7 +100,7 @@ module _ (s : Subject) (stage : ℕ) (ready : IsReady s) (within : stage ≤ las
         right_stage listed is same (suc (suc zero)) rest w = below_start 2 (omega arith) _ w
         right_stage listed is same (suc (suc (suc zero))) rest w =
             let h = w.1.1.0 in
-            let here : get_or (stage_nodes s stage) 0 h.node ≡ h.node =
+            let here =
             get_or_from_slice_get (stage_nodes s stage) 0 h.node h.node h.is.numbered in
             h.differs (h.listed_is ∙ ap (λ (x : Node). x.potential) (sym here) ∙ sym (is h.node) ∙ same
             ∙ sym h.count_is)

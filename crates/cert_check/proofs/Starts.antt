@@ -60,11 +60,10 @@ module _ (s : Subject) (stage : ℕ) where
   pub start_told : (kind : Kind) → kind.place ≡ 0 → kind.opened ≡ 0 → kind.unmet ≡ 0 → kind.met ≡ 0
       → kind_of_bits problem stage kind ≡ kind_of problem stage []
   start_told kind place opened unmet met =
-      let flags : open_tiers (length problem.tiers.free) kind.opened ≡ map (λ (t : ℕ). false) problem.tiers.free =
+      let flags =
       ap (open_tiers (length problem.tiers.free)) opened ∙ none_open _ _
       (sym (length-range_with_len 0 (length problem.tiers.free))) in
-      let ps : phases (length (stretches problem stage)) kind
-      ≡ map (λ (c : Constraint). phase c.left c.right []) (stretches problem stage) =
+      let ps =
       all_closed kind unmet met _ _ (sym (length-range_with_len 0 (length (stretches problem stage)))) lefts in
       ap (λ (n : ℕ). let k : PrefixKind = record {
         place = n;
@@ -80,7 +79,7 @@ module _ (s : Subject) (stage : ℕ) where
         → (o : Ordering) → o ≡ kind_order (kind_in s.shape.now stage kind) (kind_in s.shape.now stage start)
         → IsTrue (is_eq o) ↔ (kind_of_bits problem stage kind ≡ kind_of problem stage [])
     start_by kind start place opened unmet met o e =
-        let same : o ≡ kind_order (kind_of_bits problem stage kind) (kind_of problem stage []) =
+        let same =
         e ∙ ap₂ kind_order (tell_same s ready _ within kind)
         (tell_same s ready _ within start ∙ start_told start place opened unmet met) in
         let t = tie_is _ _ in

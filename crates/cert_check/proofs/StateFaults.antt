@@ -170,7 +170,7 @@ module _ (problem : Problem) (answer : Answer)
     agreed : (column : List Sym) (s t : Option ℕ) → HasWrongArcs problem answer line.node column s t
         → do_differ arcs kept column ≡ false → ⊥
     agreed column s t h e =
-        let kind : h.kind ≡ k = one_kind _ _ _ k _ h.of_kind of_kind in
+        let kind = one_kind _ _ _ k _ h.of_kind of_kind in
         h.differs (targets_agree _ _ _ (single once _) (one_kept column) e s t
         (rw (one_line h.line h.is) at h.listed_is) ((are.targets column t).1 (rw kind at h.kept_is)))
 

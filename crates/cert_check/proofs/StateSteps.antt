@@ -83,7 +83,7 @@ module _ (problem : Problem) (answer : Answer)
       )))
       (λ same.
       let here : h.0 ≡ count = omega (arith, above, same) in
-      let one : other ≡ line = some_same (sym (numbered other h) ∙ ap (slice_get states) here ∙ is) in
+      let one = some_same (sym (numbered other h) ∙ ap (slice_get states) here ∙ is) in
       absurd (omega (arith, less, ap (λ (x : StateLine). x.node) one)))
       (cases_lt count h.0))
       (cases_lt h.0 count)
@@ -107,7 +107,7 @@ module _ (problem : Problem) (answer : Answer)
       lower : (state part : ℕ) (rest : List ℕ) → InState problem answer state part rest → state < line.node → ⊥
       lower state part rest w less =
           let other = line_of _ _ _ w in
-          let h : HasState answer state other.0 = other.1 in
+          let h = other.1 in
           before h.listed.0 other.0 (stands_before count line is other.0 h.listed (omega (arith, less, h.numbered)))
           (numbered other.0 h.listed) part rest (rw h.numbered w)
 
@@ -129,7 +129,7 @@ module _ (problem : Problem) (answer : Answer)
   states_right start all (suc (suc (suc (suc (suc zero))))) l rest w = w.0 start
   states_right start all (suc (suc (suc (suc (suc (suc zero)))))) l rest w =
       let other = line_of _ _ _ w.1.1.1.0 in
-      let h : HasState answer w.0 other.0 = other.1 in
+      let h = other.1 in
       all h.listed.0 other.0 (numbered _ h.listed) w.1.0 w.1.1.0 (rw h.numbered w.1.1.1.0)
   states_right start all (suc (suc (suc (suc (suc (suc (suc n))))))) l rest w = w
 
@@ -156,13 +156,13 @@ module _ (states : List StateLine) (s : Subject) (staged : IsRightBeforeStates s
       → count ≡ last_stage (problem_of s) → stage ≡ get_or s.answer.now.stages.items count stage
       → node ≡ get_or nodes line.node node → IsStateAt s line node
   state_here nodes stage count node here counted e f =
-      let lines : List StateLine = s.answer.now.automaton.states.items in
+      let lines = s.answer.now.automaton.states.items in
       let listed : Contains lines line = (
         i,
         slice_get_within lines i line state_read,
         get_or_from_slice_get lines i line line state_read,
       ) in
-      let own : nodes ≡ stage_nodes s (last_stage (problem_of s)) =
+      let own =
       nodes_read s staged.ready _ (omega arith) _ _ here (rw counted at e) in
       let inside : line.node < length nodes = rw own (state_node_within s staged _ listed) in
       record {

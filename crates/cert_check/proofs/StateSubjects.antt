@@ -31,7 +31,7 @@ module _ (s : Subject) (staged : IsRightBeforeStates s) where
 
     pub node_fits : FitsShape s.shape.now (last_stage (problem_of s)) node.kind
     node_fits =
-        let nodes : List Node = stage_nodes s (last_stage (problem_of s)) in
+        let nodes = stage_nodes s (last_stage (problem_of s)) in
         subst (λ (x : Node). FitsShape s.shape.now (last_stage (problem_of s)) x.kind)
         (get_or_from_slice_get nodes state.node node node at.is.numbered)
         (fits_at s staged.ready _ (omega arith) _ _ (slice_get_within nodes state.node node at.is.numbered))

@@ -193,7 +193,7 @@ module _ (s : Subject) (ready : IsReady s) (stage : ℕ) (within : stage ≤ las
       ≡ cut_kind (problem_of s) (stage - 1) (kind_of_bits (problem_of s) stage kind)
   cut_before_told kind result count some is place opened same =
       let before : stage - 1 ≤ last_stage (problem_of s) = omega (arith, within) in
-      let counted : count ≡ length (stretches (problem_of s) (stage - 1)) =
+      let counted =
       is ∙ get_or_default s.shape.now.phases.items (stage - 1) count 0 (stage_in s ready _ before) ∙ stretch_same s
       ready _ before in
       let rises : length (stretches (problem_of s) (stage - 1)) ≤ length (stretches (problem_of s) stage) =

@@ -136,7 +136,7 @@ module _ (x : Constraint) (c d : List Sym) where
       → all_so NoEdge x.left c ≡ all_so NoEdge x.left d → all_so Absent x.right c ≡ all_so Absent x.right d
       → all_so NotInside x.right c ≡ all_so NotInside x.right d → AreAlikeFor x c d
   stretch_alike h opened edge present inside =
-      let edges : edge_among x.left c ≡ edge_among x.left d = edge_alike _ c d edge in
+      let edges = edge_alike _ c d edge in
       let parts = and_parts (is_implication x.family) (not (has_edge_type x.left)) h in
       record {
         cost = subst CostsAlike (sym (stretch_family _ h))

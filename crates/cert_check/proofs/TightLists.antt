@@ -124,7 +124,7 @@ module _ (problem : Problem) (stages : List Stage) (stage : ℕ) (k : PrefixKind
           alike = subst (All (IsAlikeTo problem stage)) (sym e)
               (All-push (IsAlikeTo problem stage) old class so_far.alike alike);
           into = λ column h. ⊎_elim (λ front. let r = so_far.into column front in (front_more _ r.0, r.1))
-              (λ last. let held : has class column ≡ true = last_of _ last in
+              (λ last. let held = last_of _ last in
               (last_more _ held, tight column held)) (or_cases (some_has old column) (some_has (class ∷ []) column)
               (sym (some column) ∙ h));
           back = λ column h t. some column ∙ ⊎_elim
@@ -147,7 +147,7 @@ module _ (problem : Problem) (stages : List Stage) (stage : ℕ) (k : PrefixKind
   pub tight_of_all : (classes : List Class) (n : ℕ) (tight : List Class) → ArePieces problem.tiers.width classes
       → length classes ≤ n → TightOf classes n tight → AreTightAmong problem stages stage k classes tight
   tight_of_all classes n tight pieces l a =
-      let whole : take n classes ≡ classes = take_all n classes l in
+      let whole = take_all n classes l in
       record {
         pieces = pieces_from_once _ _ a.one_width a.filled (λ column. omega (
               arith,

@@ -120,7 +120,7 @@ module _ (s : Subject) (ready : IsReady s) (stage j : ℕ) (within : stage ≤ l
   pub cut_told_at : result.place ≡ kind.place → ((i : ℕ) → i < count → phase_at result i ≡ phase_at kind i)
       → kind_of_bits (problem_of s) j result ≡ cut_kind (problem_of s) j (kind_of_bits (problem_of s) stage kind)
   cut_told_at place same =
-      let number : count ≡ length (stretches (problem_of s) j) =
+      let number =
       is ∙ get_or_default s.shape.now.phases.items j count 0 (stage_in s ready j last) ∙ stretch_same s ready j last in
       cut_told (problem_of s) result kind j stage (stretches_rise (problem_of s).constraints j stage earlier) place
       opened (λ i l. same i (omega (arith, l, number)))

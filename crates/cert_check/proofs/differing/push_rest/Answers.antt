@@ -12,8 +12,8 @@ split-requires c =
 
 pub returns-in-Ok-extend_from_slice : goal.returns-in-Ok-extend_from_slice
 returns-in-Ok-extend_from_slice c =
-    let inside : List Class = c.in_ok-parts.parts.inside.items in
-    let outside : List Class = c.in_ok-parts.parts.outside.items in
+    let inside = c.in_ok-parts.parts.inside.items in
+    let outside = c.in_ok-parts.parts.outside.items in
     adds_more _ _ _ _ (c.in-Ok-extend_from_slice.ensures.items ∙ ap (λ (xs : List Class). c.args.pieces.now.items ++ xs)
     c.as_slice.ensures.value) (rw (drop_at inside outside (length inside) refl) at (All-drop
     (λ (class : Class). IsTrue (is_filled class)) (length inside) (inside ++ outside)

@@ -6,7 +6,7 @@ use Rattle.cert_check.proofs.find.find.Goals as goal
 
 pub loop-low-preserved-in-Less : goal.loop-low-preserved-in-Less
 loop-low-preserved-in-Less c =
-    let middle : ℕ = c.loop-low.low + (c.loop-low.high - c.loop-low.low) / 2 in
+    let middle = c.loop-low.low + (c.loop-low.high - c.loop-low.low) / 2 in
     let inside : middle < length c.args.nodes.now = omega (arith, c.loop-low-test.true, c.loop-low.invariant.high) in
     record {
       low = omega (arith, c.loop-low-test.true);
@@ -18,7 +18,7 @@ loop-low-preserved-in-Less c =
 
 pub loop-low-preserved : goal.loop-low-preserved
 loop-low-preserved c =
-    let middle : ℕ = c.loop-low.low + (c.loop-low.high - c.loop-low.low) / 2 in
+    let middle = c.loop-low.low + (c.loop-low.high - c.loop-low.low) / 2 in
     let inside : middle < length c.args.nodes.now = omega (arith, c.loop-low-test.true, c.loop-low.invariant.high) in
     record {
       low = omega (arith, c.loop-low-test.true);
@@ -30,7 +30,7 @@ loop-low-preserved c =
 
 pub returns-in-Equal : goal.returns-in-Equal
 returns-in-Equal c =
-    let middle : ℕ = c.loop-low.low + (c.loop-low.high - c.loop-low.low) / 2 in
+    let middle = c.loop-low.low + (c.loop-low.high - c.loop-low.low) / 2 in
     let inside : middle < length c.args.nodes.now = omega (arith, c.loop-low-test.true, c.loop-low.invariant.high) in
     at_middle c.args.shape.now c.args.stage _ c.args.key.now c.requires.ascending _ _ inside
     (sym c.kind_cmp.ensures ∙ c.in-Equal.is)

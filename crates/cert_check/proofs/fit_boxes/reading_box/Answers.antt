@@ -9,7 +9,7 @@ use Rattle.cert_check.proofs.fit_boxes.reading_box.Goals as goal
 pub bounds-form-next : goal.bounds-form-next
 bounds-form-next c =
     let kinds = c.args.kinds.now in
-    let here : is_input (kind_at kinds c.loop-tier.tier) ≡ true = sym c.is_input.ensures ∙ c.if-is_input.true in
+    let here = sym c.is_input.ensures ∙ c.if-is_input.true in
     omega (
       arith,
       c.loop-tier.invariant.count,
@@ -25,14 +25,13 @@ pub loop-tier-preserved : goal.loop-tier-preserved
 loop-tier-preserved c =
     let kinds = c.args.kinds.now in
     let form = c.args.form.now in
-    let tier : ℕ = c.loop-tier.tier in
-    let next : ℕ = c.loop-tier.next in
-    let step : inputs_before kinds (tier + 1)
-    ≡ inputs_before kinds tier + cond (is_input (kind_at kinds tier)) 1 0 =
+    let tier = c.loop-tier.tier in
+    let next = c.loop-tier.next in
+    let step =
     inputs_more kinds tier c.loop-tier-test.true in
     elim c.if-is_input.branch [
       | then-is_input w ↦
-          let is : is_input (kind_at kinds tier) ≡ true = sym c.is_input.ensures ∙ w.if-is_input.true in
+          let is = sym c.is_input.ensures ∙ w.if-is_input.true in
           rw (w.class-is, w.next-is) (record {
             width = w.restrict-class.ensures.width ∙ c.loop-tier.invariant.width;
             count = omega (arith, c.loop-tier.invariant.count, step, ap {B = ℕ} (λ b. cond b 1 0) is);
@@ -50,7 +49,7 @@ loop-tier-preserved c =
                 (c.loop-tier.invariant.columns column l);
           })
       | else-is_input w ↦
-          let is : is_input (kind_at kinds tier) ≡ false = sym c.is_input.ensures ∙ w.if-is_input.false in
+          let is = sym c.is_input.ensures ∙ w.if-is_input.false in
           rw (w.class-is, w.next-is) (record {
             width = c.loop-tier.invariant.width;
             count = omega (arith, c.loop-tier.invariant.count, step, ap {B = ℕ} (λ b. cond b 1 0) is);

@@ -65,8 +65,7 @@ returns-then-place-len c stage =
     let still = c.meet-still.result in
     let bare = c.edgeless_box.result in
     let k = kind_of_bits problem stage kind in
-    let wide : length (sets_of coming) ≡ problem.tiers.width = c.coming_box-coming.ensures.width
-    ∙ ap (λ (ks : List TierKind). length ks) same in
+    let wide = c.coming_box-coming.ensures.width ∙ ap (λ (ks : List TierKind). length ks) same in
     are_fitting problem k coming still bare c.open_tiers.result (λ column. false) (tiers_split own).inputs_below wide
     (mask_agrees s c.requires.ready stage kind c.requires.place _ (rw same at c.open_tiers.ensures))
     (rw (ap (λ (ks : List TierKind). length ks) same) at c.coming_box-coming.ensures.columns) (still_by 0 _ _ _ _ _ same
@@ -96,8 +95,7 @@ returns c stage =
     let reading = c.meet-reading.result in
     let bare = c.edgeless_box.result in
     let k = kind_of_bits problem stage kind in
-    let wide : length (sets_of coming) ≡ problem.tiers.width = c.coming_box-coming.ensures.width
-    ∙ ap (λ (ks : List TierKind). length ks) same in
+    let wide = c.coming_box-coming.ensures.width ∙ ap (λ (ks : List TierKind). length ks) same in
     are_fitting problem k coming still bare c.open_tiers.result (has reading) (tiers_split own).inputs_below wide
     (mask_agrees s c.requires.ready stage kind c.requires.place _ (rw same at c.open_tiers.ensures))
     (rw (ap (λ (ks : List TierKind). length ks) same) at c.coming_box-coming.ensures.columns) (still_by 0 _ _ _ _ _ same

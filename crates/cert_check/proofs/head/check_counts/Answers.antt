@@ -12,9 +12,7 @@ vector-requires-clause-countable c =
 
 pub returns-clause-err : goal.returns-clause-err
 returns-clause-err c =
-    let problem = asked_by c.args.grammar.now c.args.answer.now in
-    let counted : List ℕ = c.in_ok-counted.counted.items in
-    let is : counted ≡ counts_on problem c.args.answer.now.example = c.in_ok-counted.ensures
-    ∙ ap (λ (cs : List Constraint). vec cs c.args.answer.now.example) c.deref.ensures.value in
+    let is = c.in_ok-counted.ensures ∙ ap (λ (cs : List Constraint). vec cs c.args.answer.now.example)
+    c.deref.ensures.value in
     stops_say _ _ _ (first_counts _ _ c.requires.form c.requires.numbers c.requires.example _ is)
     (rw c.deref-2.ensures.value at (rw c.deref-3.ensures.value at c.compare_counts.ensures.err))

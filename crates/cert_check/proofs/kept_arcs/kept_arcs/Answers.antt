@@ -27,7 +27,6 @@ pub arcs_of-requires-clause-listed : goal.arcs_of-requires-clause-listed
 arcs_of-requires-clause-listed c =
     let s = c.args.subject.now in
     let is : c.len-last.result ≡ last_stage (problem_of s) = omega (arith, c.len-last.ensures) in
-    let pieces : List KeptPiece = c.in_ok-pieces.pieces.items in
     rw c.deref.ensures.value
     (rw is (targets_listed s c.requires.staged _ _ c.requires.at _ (rw is at c.in_ok-pieces.ensures)))
 
@@ -35,6 +34,5 @@ pub returns-in-Ok : goal.returns-in-Ok
 returns-in-Ok c =
     let s = c.args.subject.now in
     let is : c.len-last.result ≡ last_stage (problem_of s) = omega (arith, c.len-last.ensures) in
-    let pieces : List KeptPiece = c.in_ok-pieces.pieces.items in
     kept_arcs_are s _ _ _ (rw is at c.in_ok-pieces.ensures) (rw is at (rw c.deref.ensures.value at c.in-Ok.ensures))
     (ascends_at s c.requires.staged _ (omega arith))

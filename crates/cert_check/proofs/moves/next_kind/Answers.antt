@@ -10,11 +10,11 @@ pub with_phases-requires-clause-over : goal.with_phases-requires-clause-over
 with_phases-requires-clause-over c k d l =
     let g = c.args.subject.now.grammar.now in
     let xs = c.as_slice.result.now in
-    let same : xs ≡ g.constraints.items = c.as_slice.ensures.value in
+    let same = c.as_slice.ensures.value in
     let size = length-take c.args.stage xs in
     let within : k < c.args.stage = omega (arith, l, size) in
     let below : k < length g.constraints.items = omega (arith, l, size, ap length same) in
-    let at : get_or (take c.args.stage xs) k d ≡ get_or g.constraints.items k d =
+    let at =
     get_or-take c.args.stage xs k d within ∙ ap (λ ys. get_or ys k d) same in
     let Over : ℕ → Constraint → Type 0 = λ w x. IsOverTiers w x in
     rw at (rw c.requires.width

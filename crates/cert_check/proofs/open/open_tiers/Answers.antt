@@ -13,11 +13,9 @@ is_open-is_open-requires-clause-wide c h k d l =
 pub loop-tier-preserved : goal.loop-tier-preserved
 loop-tier-preserved c =
     let kinds = c.args.kinds.now in
-    let tier : ℕ = c.loop-tier.tier in
-    let open_by : ℕ → Bool = is_open_by kinds c.args.form.now c.args.kind.now.place c.args.kind.now.opened in
-    let step : inputs_before kinds (tier + 1)
-    ≡ inputs_before kinds tier + cond
-    (is_input (kind_at kinds tier)) 1 0 = inputs_more kinds tier c.loop-tier-test.true in
+    let tier = c.loop-tier.tier in
+    let open_by = is_open_by kinds c.args.form.now c.args.kind.now.place c.args.kind.now.opened in
+    let step = inputs_more kinds tier c.loop-tier-test.true in
     record {
       within = c.with_bit-open.ensures.within;
       bits = λ t l. ⊎_elim

@@ -8,7 +8,7 @@ use Rattle.cert_check.proofs.order.check_order.Goals as goal
 pub returns-then-not-is_in_order-clause-err : goal.returns-then-not-is_in_order-clause-err
 returns-then-not-is_in_order-clause-err c =
     let s = c.args.subject.now in
-    let read : c.as_slice-nodes.result.now ≡ stage_nodes s c.args.stage =
+    let read =
     nodes_read s c.requires.ready _ c.requires.stage _ _ c.as_slice-nodes.ensures.value c.index.ensures in
     first_wrong s _ c.requires.ready c.requires.stage _
     (omega (arith, c.loop-number-test.true, ap (λ (xs : List Node). length xs) read))
@@ -23,6 +23,6 @@ loop-number-preserved c n l = ⊎_elim
 pub returns-clause-ok : goal.returns-clause-ok
 returns-clause-ok c n l =
     let s = c.args.subject.now in
-    let read : c.as_slice-nodes.result.now ≡ stage_nodes s c.args.stage =
+    let read =
     nodes_read s c.requires.ready _ c.requires.stage _ _ c.as_slice-nodes.ensures.value c.index.ensures in
     c.loop-number.invariant n (omega (arith, l, c.loop-number-test.false, ap (λ (xs : List Node). length xs) read))

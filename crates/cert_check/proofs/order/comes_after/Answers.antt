@@ -7,9 +7,8 @@ use Rattle.cert_check.proofs.order.comes_after.Goals as goal
 pub returns : goal.returns
 returns c =
     let s = c.args.subject.now in
-    let stage : ℕ = c.args.stage in
     let some : 1 ≤ c.args.number = omega (arith, c.if-number-eq0.false) in
-    let same : c.kind_cmp.result ≡ kind_order (node_kind s _ _) (node_kind s _ _) =
+    let same =
     c.kind_cmp.ensures ∙ ap₂ kind_order
     (number_read s c.requires.ready _ c.requires.stage _ _ _ c.requires.nodes (omega (arith, c.requires.within)))
     (number_read s c.requires.ready _ c.requires.stage _ _ _ c.requires.nodes c.requires.within) in

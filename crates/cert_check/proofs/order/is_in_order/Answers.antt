@@ -9,12 +9,11 @@ use Rattle.cert_check.proofs.order.is_in_order.Goals as goal
 pub returns : goal.returns
 returns c =
     let s = c.args.subject.now in
-    let stage : ℕ = c.args.stage in
-    let n : ℕ = c.args.number in
+    let stage = c.args.stage in
+    let n = c.args.number in
     let inside : n < length (stage_nodes s stage) = omega
     (arith, c.requires.within, ap (λ (xs : List Node). length xs) c.requires.nodes) in
-    let bits : kind_of_bits (problem_of s) stage (get_or c.args.nodes.now n c.index-nodes-number.result).kind ≡
-    node_kind s _ n =
+    let bits =
     number_bits s c.requires.ready _ c.requires.stage _ n _ c.requires.nodes c.requires.within in
     let Cut : PrefixKind → Type 0 = λ k. 1 ≤ stage
     → Contains (stage_kinds s (stage - 1)) (cut_kind (problem_of s) (stage - 1) k) in (

@@ -7,10 +7,8 @@ use Rattle.cert_check.proofs.parting.push_stretch.Goals as goal
 pub returns : goal.returns
 returns c =
     let x = c.args.constraint.now in
-    let old : List Class = c.args.tests.now.items in
     let more : List Class → Class → List Class = λ xs t. xs ++ t ∷ [] in
-    let all : c.push-4.new.self.items ≡ (((old ++ c.box_of.result ∷ []) ++ c.box_of-2.result ∷ [])
-    ++ c.box_of-3.result ∷ []) ++ c.box_of-4.result ∷ [] =
+    let all =
     c.in_ok-push-4.ensures.items ∙ ap (λ xs. more xs c.box_of-4.result)
     (c.in_ok-push-3.ensures.items ∙ ap (λ xs. more xs c.box_of-3.result)
     (c.in_ok-push-2.ensures.items ∙ ap (λ xs. more xs c.box_of-2.result) c.in_ok-push.ensures.items)) in

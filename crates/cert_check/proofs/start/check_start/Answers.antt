@@ -10,13 +10,11 @@ use Rattle.cert_check.proofs.start.check_start.Goals as goal
 pub returns-then-is_empty-clause-err : goal.returns-then-is_empty-clause-err
 returns-then-is_empty-clause-err c =
     let s = c.args.subject.now in
-    let read : c.as_slice-nodes.result.now ≡ stage_nodes s c.args.stage =
+    let read =
     nodes_read s c.requires.ready _ c.requires.stage _ _ c.as_slice-nodes.ensures.value c.index.ensures in
-    let none : length c.as_slice-nodes.result.now
-    ≡ 0 = eqb-true (length c.as_slice-nodes.result.now) 0 (sym c.is_empty.ensures ∙ c.if-is_empty.true) in
+    let none = eqb-true (length c.as_slice-nodes.result.now) 0 (sym c.is_empty.ensures ∙ c.if-is_empty.true) in
     first_missing s _ c.requires.ready c.requires.stage c.requires.order (λ e.
-    let there : 0 < length (stage_kinds s c.args.stage) = slice_get_within (stage_kinds s c.args.stage) 0
-    (kind_of (problem_of s) c.args.stage []) e in
+    let there = slice_get_within (stage_kinds s c.args.stage) 0 (kind_of (problem_of s) c.args.stage []) e in
     absurd (omega (
       arith,
       there,
@@ -28,7 +26,7 @@ returns-then-is_empty-clause-err c =
 pub is_start-requires-clause-fits : goal.is_start-requires-clause-fits
 is_start-requires-clause-fits c =
     let s = c.args.subject.now in
-    let read : c.as_slice-nodes.result.now ≡ stage_nodes s c.args.stage =
+    let read =
     nodes_read s c.requires.ready _ c.requires.stage _ _ c.as_slice-nodes.ensures.value c.index.ensures in
     let some : 0 < length c.as_slice-nodes.result.now = omega
     (arith, eqb-false (length c.as_slice-nodes.result.now) 0 (sym c.is_empty.ensures ∙ c.if-is_empty.false)) in
@@ -37,7 +35,7 @@ is_start-requires-clause-fits c =
 pub returns-then-not-is_start-clause-err : goal.returns-then-not-is_start-clause-err
 returns-then-not-is_start-clause-err c =
     let s = c.args.subject.now in
-    let read : c.as_slice-nodes.result.now ≡ stage_nodes s c.args.stage =
+    let read =
     nodes_read s c.requires.ready _ c.requires.stage _ _ c.as_slice-nodes.ensures.value c.index.ensures in
     let some : 0 < length c.as_slice-nodes.result.now = omega
     (arith, eqb-false (length c.as_slice-nodes.result.now) 0 (sym c.is_empty.ensures ∙ c.if-is_empty.false)) in

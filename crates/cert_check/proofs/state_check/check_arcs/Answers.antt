@@ -29,7 +29,6 @@ least_differing-requires c =
 pub returns-in-None-clause-ok : goal.returns-in-None-clause-ok
 returns-in-None-clause-ok c =
     let s = c.args.subject.now in
-    let kept : List ArcLine = c.in_ok-kept.kept.items in
     arcs_right _ _ (states_ascend s c.requires.staged) _ c.requires.at.listed _
     (of_kind s c.requires.staged _ _ c.requires.at) c.requires.once _ c.in_ok-kept.ensures
     (one_kept_target s _ _ c.in_ok-kept.ensures (ascends_at s c.requires.staged _ (omega arith))) (on_both
@@ -39,8 +38,6 @@ returns-in-None-clause-ok c =
 pub returns-clause-err : goal.returns-clause-err
 returns-clause-err c =
     let s = c.args.subject.now in
-    let arcs : List ArcLine = c.args.state.now.arcs.items in
-    let kept : List ArcLine = c.in_ok-kept.kept.items in
     first_arcs _ _ (states_ascend s c.requires.staged) _ c.requires.at.listed _
     (of_kind s c.requires.staged _ _ c.requires.at) c.requires.once _ c.in_ok-kept.ensures
     (one_kept_target s _ _ c.in_ok-kept.ensures (ascends_at s c.requires.staged _ (omega arith))) c.requires.targets

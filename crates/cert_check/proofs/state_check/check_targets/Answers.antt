@@ -24,9 +24,8 @@ pub loop-arc-preserved : goal.loop-arc-preserved
 loop-arc-preserved c n arc l e = ⊎_elim
     (λ below. c.loop-arc.invariant n arc below e)
     (λ above.
-    let own = c.arc-item.result in
     let is : n ≡ c.loop-arc.arc-index = omega (arith, l, above) in
-    let same : arc ≡ own = some_same (sym e ∙ ap (slice_get c.args.state.now.arcs.items) is ∙ numbered _ _
+    let same = some_same (sym e ∙ ap (slice_get c.args.state.now.arcs.items) is ∙ numbered _ _
     c.deref-arc-items.ensures.value _ _ c.loop-arc-test.true c.arc-item.is) in
     rw same (rw c.as_slice-states.ensures.value at (c.has_state.ensures.0 c.if-not-has_state.false))) (cases_lt n
     c.loop-arc.arc-index)

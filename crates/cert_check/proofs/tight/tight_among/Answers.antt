@@ -8,8 +8,7 @@ pub returns-in_default : goal.returns-in_default
 returns-in_default c =
     let s = c.args.subject.now in
     let k = kind_of_bits (problem_of s) c.args.stage c.args.kind.now in
-    let from : kind_of_bits (problem_of s) c.args.earlier c.cut_to-from.result
-    ≡ cut_kind (problem_of s) c.args.earlier k =
+    let from =
     cut_told_at s c.requires.ready _ _ c.requires.stage c.requires.earlier c.args.kind.now _ _ c.index.ensures
     c.cut_to-from.ensures.opened c.cut_to-from.ensures.stretches c.cut_to-from.ensures.place
     c.cut_to-from.ensures.phases in
@@ -19,8 +18,7 @@ pub returns-in-Ok : goal.returns-in-Ok
 returns-in-Ok c =
     let s = c.args.subject.now in
     let k = kind_of_bits (problem_of s) c.args.stage c.args.kind.now in
-    let from : kind_of_bits (problem_of s) c.args.earlier c.cut_to-from.result
-    ≡ cut_kind (problem_of s) c.args.earlier k =
+    let from =
     cut_told_at s c.requires.ready _ _ c.requires.stage c.requires.earlier c.args.kind.now _ _ c.index.ensures
     c.cut_to-from.ensures.opened c.cut_to-from.ensures.stretches c.cut_to-from.ensures.place
     c.cut_to-from.ensures.phases in

@@ -22,7 +22,7 @@ push_tight-requires-clause-alike c =
 
 pub loop-class-preserved : goal.loop-class-preserved
 loop-class-preserved c k e =
-    let i : ℕ = c.loop-class.class-index in
+    let i = c.loop-class.class-index in
     tight_of_step _ _ _ k _ i _ c.loop-class-test.true c.class-item.is _ _ (c.loop-class.invariant k e)
     (rw c.class-item.is (c.requires.pieces.one_width i c.class-item.result c.loop-class-test.true))
     (rw c.class-item.is (c.requires.pieces.filled i c.class-item.result c.loop-class-test.true))

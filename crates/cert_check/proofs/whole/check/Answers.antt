@@ -16,9 +16,7 @@ returns-in-Ok-clause-sound c same =
 pub returns-in-Err-Found-clause-right : goal.returns-in-Err-Found-clause-right
 returns-in-Err-Found-clause-right c right form short =
     let g = c.args.grammar.now in
-    let answer = c.args.answer.now in
-    let problem = asked_by g answer in
-    let first : IsFirstFault problem answer c.in-Err-Found.fault =
+    let first =
     stop_said _ _ _ c.in-Err-Found.field-0-is c.in-Err-Found.ensures.err in
     absurd (faultless_if_certified _ _ (states_in_order g _ c.requires)
     (certified_from_right _ _ (record { split = tiers_split _; over = over_tiers g; form = form; right = right }) short)

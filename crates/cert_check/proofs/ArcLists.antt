@@ -21,16 +21,15 @@ both_true false b e f = absurd (true≢false (sym e))
 pub led_from : (arcs : List ArcLine) (column : List Sym) (m : ℕ) → IsListedTarget arcs column (Some m)
     → is_led arcs m column ≡ true
 led_from arcs column m h =
-    list_any_at (λ arc. (arc.target == m) && has arc.class column) arcs h.1.0.0 h.0 h.1.0.1 (ap
-    (λ (arc : ArcLine). (arc.target == m) && has arc.class column) h.1.0.2 ∙ both_true _ _ (eq-eqb h.0.target m h.1.2)
-    h.1.1)
+    list_any_at _ _ _ _ h.1.0.1
+    (ap (λ (arc : ArcLine). (arc.target == m) && has arc.class column) h.1.0.2 ∙ both_true _ _ (eq-eqb _ m h.1.2) h.1.1)
 
 pub led_to : (arcs : List ArcLine) (column : List Sym) (m : ℕ) → is_led arcs m column ≡ true
     → IsListedTarget arcs column (Some m)
 led_to [] column m h = absurd (true≢false (sym h))
-led_to (a ∷ arcs) column m h = elim (or_cases ((a.target == m) && has a.class column) (is_led arcs m column) h) [
-  | inl e ↦ let parts = and_parts (a.target == m) (has a.class column) e in
-      (a, ((0, omega arith, refl), parts.1, eqb-true a.target m parts.0))
+led_to (a ∷ arcs) column m h = elim (or_cases _ _ h) [
+  | inl e ↦ let parts = and_parts _ _ e in
+      (a, ((0, omega arith, refl), parts.1, eqb-true _ m parts.0))
   | inr e ↦ let rest = led_to arcs column m e in
       (rest.0, ((suc rest.1.0.0, omega (arith, rest.1.0.1), rest.1.0.2), rest.1.1, rest.1.2))
 ]
@@ -60,28 +59,27 @@ module _ (arcs : List ArcLine) (n : ℕ) (arc : ArcLine) (within : n < length ar
   led_there same classes more e h column =
       ap (λ cs. some_has cs column) e ∙ list_any-append (λ class. has class column) classes (arc.class ∷ []) ∙ ap₂
       (λ a b. a || b) (h column) (sym (or_false _ _ refl)) ∙ ap
-      (λ b. is_led (take n arcs) target column || (b && has arc.class column)) (sym (eq-eqb arc.target target same)) ∙
-      sym (led_more _)
+      (λ b. is_led (take n arcs) target column || (b && has arc.class column)) (sym (eq-eqb _ _ same)) ∙ sym
+      (led_more _)
 
 -- an arc that holds a column on which no other arc leads to its target
 pub unmatched_to : (arcs others : List ArcLine) (column : List Sym) → is_unmatched arcs others column ≡ true
     → (arc : ArcLine) × (Contains arcs arc × (IsTrue (has arc.class column)
     × (is_led others arc.target column ≡ false)))
 unmatched_to [] others column h = absurd (true≢false (sym h))
-unmatched_to (a ∷ arcs) others column h = elim (or_cases (has a.class column && not (is_led others a.target column))
-    (is_unmatched arcs others column) h) [
-      | inl e ↦ let parts = and_parts (has a.class column) (not (is_led others a.target column)) e in
-          (a, ((0, omega arith, refl), (parts.0, not-true (is_led others a.target column) parts.1)))
-      | inr e ↦ let rest = unmatched_to arcs others column e in
-          (rest.0, ((suc rest.1.0.0, omega (arith, rest.1.0.1), rest.1.0.2), rest.1.1))
-    ]
+unmatched_to (a ∷ arcs) others column h = elim (or_cases _ _ h) [
+  | inl e ↦ let parts = and_parts _ _ e in
+      (a, ((0, omega arith, refl), (parts.0, not-true _ parts.1)))
+  | inr e ↦ let rest = unmatched_to arcs others column e in
+      (rest.0, ((suc rest.1.0.0, omega (arith, rest.1.0.1), rest.1.0.2), rest.1.1))
+]
 
 pub unmatched_from : (arcs others : List ArcLine) (column : List Sym) (arc : ArcLine) → Contains arcs arc
     → IsTrue (has arc.class column) → is_led others arc.target column ≡ false
     → is_unmatched arcs others column ≡ true
 unmatched_from arcs others column arc h holds e =
-    list_any_at (λ x. has x.class column && not (is_led others x.target column)) arcs h.0 arc h.1 (ap
-    (λ (x : ArcLine). has x.class column && not (is_led others x.target column)) h.2 ∙ both_true _ _ holds (ap not e))
+    list_any_at _ _ _ _ h.1 (ap (λ (x : ArcLine). has x.class column && not (is_led others x.target column)) h.2 ∙
+    both_true _ _ holds (ap not e))
 
 -- a column has one target at most
 abbrev pub HasOneTarget : List ArcLine → List Sym → Type 0
@@ -102,7 +100,7 @@ one_target arcs column two m n a b = elim (cases_order a.1.0.0 b.1.0.0) [
 ]
   where
     numbered : (arc : ArcLine) (h : Contains arcs arc) → slice_get arcs h.0 ≡ Some arc
-    numbered arc h = slice_get-get_or arcs h.0 arc h.1 ∙ ap (λ (x : ArcLine). Some x) h.2
+    numbered arc h = slice_get-get_or _ _ _ h.1 ∙ ap (λ (x : ArcLine). Some x) h.2
 
 module _ (arcs others : List ArcLine) (column : List Sym) (one : HasOneTarget arcs column)
     (single : HasOneTarget others column) where
@@ -148,7 +146,7 @@ module _ (arcs others : List ArcLine) (column : List Sym) (one : HasOneTarget ar
 
   pub targets_differ : do_differ arcs others column ≡ true → (s t : Option ℕ) → IsListedTarget arcs column s
       → IsListedTarget others column t → s ≡ t → ⊥
-  targets_differ h s t a b e = elim (or_cases (is_unmatched arcs others column) (is_unmatched others arcs column) h) [
+  targets_differ h s t a b e = elim (or_cases _ _ h) [
     | inl k ↦ unlike _ _ one k s t a b e
     | inr k ↦ unlike _ _ single k t s b a (sym e)
   ]
@@ -157,7 +155,7 @@ module _ (arcs others : List ArcLine) (column : List Sym) (one : HasOneTarget ar
 
 some_arc : (arcs : List ArcLine) (column : List Sym) (i : ℕ) (arc : ArcLine) → slice_get arcs i ≡ Some arc
     → IsTrue (has arc.class column) → some_has (arc_classes arcs) column ≡ true
-some_arc [] column i arc e h = absurd (omega (arith, slice_get_within [] i arc e))
+some_arc [] column i arc e h = absurd (omega (arith, slice_get_within [] i _ e))
 some_arc (a ∷ arcs) column zero arc e h = or_left (has a.class column) (some_has (arc_classes arcs) column)
     (ap (λ o. has (unwrap_or o arc).class column) e ∙ h)
 some_arc (a ∷ arcs) column (suc i) arc e h = or_right (has a.class column) (some_has (arc_classes arcs) column)
@@ -166,7 +164,7 @@ some_arc (a ∷ arcs) column (suc i) arc e h = or_right (has a.class column) (so
 pub arc_there : (arcs : List ArcLine) (column : List Sym) → some_has (arc_classes arcs) column ≡ true
     → (i : ℕ) × ((arc : ArcLine) × ((slice_get arcs i ≡ Some arc) × IsTrue (has arc.class column)))
 arc_there [] column h = absurd (true≢false (sym h))
-arc_there (a ∷ arcs) column h = elim (or_cases (has a.class column) (some_has (arc_classes arcs) column) h) [
+arc_there (a ∷ arcs) column h = elim (or_cases _ _ h) [
   | inl e ↦ (0, (a, (refl, e)))
   | inr e ↦ let rest = arc_there arcs _ e in (suc rest.0, (rest.1.0, (rest.1.1.0, rest.1.1.1)))
 ]
@@ -185,34 +183,33 @@ pub record AreTwo (arcs : List ArcLine) (column : List Sym) : Type 0 where
 
 pub twice_to : (arcs : List ArcLine) (column : List Sym) → is_twice arcs column ≡ true → AreTwo arcs column
 twice_to [] column h = absurd (true≢false (sym h))
-twice_to (a ∷ arcs) column h = elim (or_cases (has a.class column && some_has (arc_classes arcs) column)
-    (is_twice arcs column) h) [
-      | inl e ↦ let parts = and_parts (has a.class column) (some_has (arc_classes arcs) column) e in
-          let there = arc_there arcs column parts.1 in
-          record {
-            first = 0;
-            second = suc there.0;
-            ascending = omega arith;
-            first_arc = a;
-            first_is = refl;
-            second_arc = there.1.0;
-            second_is = there.1.1.0;
-            in_first = parts.0;
-            in_second = there.1.1.1;
-          }
-      | inr e ↦ let rest = twice_to arcs column e in
-          record {
-            first = suc rest.first;
-            second = suc rest.second;
-            ascending = omega (arith, rest.ascending);
-            first_arc = rest.first_arc;
-            first_is = rest.first_is;
-            second_arc = rest.second_arc;
-            second_is = rest.second_is;
-            in_first = rest.in_first;
-            in_second = rest.in_second;
-          }
-    ]
+twice_to (a ∷ arcs) column h = elim (or_cases _ _ h) [
+  | inl e ↦ let parts = and_parts _ _ e in
+      let there = arc_there arcs column parts.1 in
+      record {
+        first = 0;
+        second = suc there.0;
+        ascending = omega arith;
+        first_arc = a;
+        first_is = refl;
+        second_arc = there.1.0;
+        second_is = there.1.1.0;
+        in_first = parts.0;
+        in_second = there.1.1.1;
+      }
+  | inr e ↦ let rest = twice_to arcs column e in
+      record {
+        first = suc rest.first;
+        second = suc rest.second;
+        ascending = omega (arith, rest.ascending);
+        first_arc = rest.first_arc;
+        first_is = rest.first_is;
+        second_arc = rest.second_arc;
+        second_is = rest.second_is;
+        in_first = rest.in_first;
+        in_second = rest.in_second;
+      }
+]
 
 pub twice_from : (arcs : List ArcLine) (column : List Sym) (i j : ℕ) (a b : ArcLine) → i < j
     → slice_get arcs i ≡ Some a → slice_get arcs j ≡ Some b → IsTrue (has a.class column)

@@ -34,11 +34,11 @@ module _ (s : Subject) (stage : ℕ) (pieces : List KeptPiece) (n : ℕ) (piece 
   pub each_more : slice_get (stage_kinds s stage) arc.target ≡ Some (kind_of_bits (problem_of s) stage piece.target)
       → All (IsPieceArc s stage pieces) old → All (IsPieceArc s stage pieces) new
   each_more leads before = rw e (All-push (IsPieceArc s stage pieces) old arc before (record {
-        piece = piece;
-        of = (n, inside, sym is);
-        same_class = same;
-        leads = leads;
-      }))
+    piece = piece;
+    of = (n, inside, sym is);
+    same_class = same;
+    leads = leads;
+  }))
 
 -- ---- where they lead
 
@@ -83,8 +83,7 @@ module _ (s : Subject) (k : PrefixKind) (pieces : List KeptPiece) (arcs : List A
       let held = ap (λ c. has c column) (sym a.same_class) ∙ holds in
       let m = contains_map _ _ _ a.of in
       let own = All-contains (IsKeptPiece problem last k) pieces a.piece kept.each a.of in (
-        (kept.columns column).0 (list_any_at (λ c. has c column) (kept_classes pieces) m.0 a.piece.class m.1
-            (ap (λ c. has c column) m.2 ∙ held)),
+        (kept.columns column).0 (list_any_at _ _ _ _ m.1 (ap (λ c. has c column) m.2 ∙ held)),
         node_of_number _ _ _ _ (a.leads ∙ ap (λ (x : PrefixKind). Some x) (own.leads column held).tells),
       )
 
@@ -100,8 +99,8 @@ module _ (s : Subject) (k : PrefixKind) (pieces : List KeptPiece) (arcs : List A
           (
             (
               there.0,
-              slice_get_within arcs there.0 arc there.1.1.0,
-              get_or_from_slice_get arcs there.0 arc arc there.1.1.0,
+              slice_get_within _ _ _ there.1.1.0,
+              get_or_from_slice_get arcs there.0 _ arc there.1.1.0,
             ),
             there.1.1.1,
             refl,

@@ -38,7 +38,7 @@ module _ (problem : Problem) (answer : Answer) (r : ℕ) (within : r < length an
 
   -- and the kind with its number is the one that it tells
   pub kind_at : (n : ℕ) (node : Node) → HasNode answer r n node → get_or kinds n (kind_of problem r []) ≡ told node
-  kind_at n node is = get_or_from_slice_get kinds n (told node) (kind_of problem r []) (node_kind problem _ r n _ is)
+  kind_at n node is = get_or_from_slice_get _ n _ _ (node_kind problem _ r n _ is)
 
   after : ((n : ℕ) → HasWrongNode problem answer r n → ⊥) → (n : ℕ) (node : Node) → HasNode answer r n node
       → (l : PrefixKind) → 1 ≤ n → slice_get kinds (n - 1) ≡ Some l → kind_order l (told node) ≡ Less
@@ -48,5 +48,5 @@ module _ (problem : Problem) (answer : Answer) (r : ℕ) (within : r < length an
   pub ascends_unless : ((n : ℕ) → HasWrongNode problem answer r n → ⊥) → IsStrictlySortedBy kind_order kinds
   ascends_unless right = sorted_from_all_adjacent kind_order_total kinds (kind_of problem r []) (λ k l.
       let node = node_at _ l in
-      rw ((kind_at (k + 1) node.0 node.1)) (after right _ _ node.1 _ (omega arith) (ap (slice_get kinds)
-      (let e : k + 1 - 1 ≡ k = omega arith in e) ∙ slice_get-get_or kinds k (kind_of problem r []) (omega (arith, l)))))
+      rw ((kind_at (k + 1) node.0 node.1)) (after right _ _ node.1 _ (omega arith)
+      (ap (slice_get kinds) (let e : k + 1 - 1 ≡ k = omega arith in e) ∙ slice_get-get_or _ k _ (omega (arith, l)))))

@@ -97,7 +97,7 @@ module _ (problem : Problem) (answer : Answer) (faultless : IsFaultless problem 
   example = so_unless (is_candidate _ _) (λ n. faultless ExampleWrong _ (n, refl))
 
   counts : answer.counts.items ≡ counts_on problem answer.example
-  counts = same_number_lists answer.counts.items (counts_on problem answer.example)
+  counts = same_number_lists _ _
       (omega (arith, count_count, length-map problem.constraints (λ c. violations_of c answer.example))) (λ k l.
       same_unless _ _ (λ n. faultless
       (CountsDiffer (k + 1) (get_or answer.counts.items k 0) (get_or (counts_on problem answer.example) k 0)) _ (
@@ -130,7 +130,7 @@ module _ (problem : Problem) (answer : Answer) (faultless : IsFaultless problem 
       h.0,
       record {
         within = in_stages;
-        numbered = slice_get-get_or nodes h.0 node h.1 ∙ ap (λ (x : Node). Some x) h.2;
+        numbered = slice_get-get_or _ _ _ h.1 ∙ ap (λ (x : Node). Some x) h.2;
       },
     )
 
@@ -218,9 +218,8 @@ module _ (problem : Problem) (answer : Answer) (faultless : IsFaultless problem 
     start : (p : ℕ) → Lists problem answer.stages.items r (kind_of problem r []) p
         → p ≡ start_potential answer.counts.items r
     start p lists =
-        let zero = node_at problem _ r in_stages 0 (slice_get_within kinds 0 (kind_of problem r []) first) in
-        let tells = sym (kind_at problem _ r in_stages 0 _ zero.1) ∙ get_or_from_slice_get kinds 0
-        (kind_of problem r []) (kind_of problem r []) first in
+        let zero = node_at problem _ r in_stages 0 (slice_get_within _ 0 _ first) in
+        let tells = sym (kind_at problem _ r in_stages 0 _ zero.1) ∙ get_or_from_slice_get _ 0 _ _ first in
         one_potential _ r _ ascending _ p _ lists (record {
           node = zero.0;
           listed = contains_numbered _ 0 _ zero.1.numbered;
@@ -291,7 +290,7 @@ module _ (problem : Problem) (answer : Answer) (faultless : IsFaultless problem 
             line = line;
             is = has_state _ h;
             arc_line = arc;
-            numbered = slice_get-get_or line.arcs.items c.0 arc c.1 ∙ ap (λ (x : ArcLine). Some x) c.2;
+            numbered = slice_get-get_or _ _ _ c.1 ∙ ap (λ (x : ArcLine). Some x) c.2;
             target_is = refl;
             lacks = no;
           },
@@ -302,16 +301,16 @@ module _ (problem : Problem) (answer : Answer) (faultless : IsFaultless problem 
   right_mark : (line : StateLine) (k : PrefixKind) → Contains states line → IsNodeOf problem last_nodes line.node k
       → line.accepting ≡ is_final problem k
   right_mark line k h of_kind = so_unless (is_bool _ _) (λ no. faultless (FinalsDiffer line.node line.accepting) _ (
-        record {
-          line = line;
-          is = has_state _ h;
-          kind = k;
-          of_kind = of_kind;
-          listed_is = refl;
-          differs = no;
-        },
-        refl,
-      ))
+    record {
+      line = line;
+      is = has_state _ h;
+      kind = k;
+      of_kind = of_kind;
+      listed_is = refl;
+      differs = no;
+    },
+    refl,
+  ))
 
   apart : (line : StateLine) → Contains states line
       → AllPairs (λ (a b : ArcLine). AreDisjoint a.class b.class) line.arcs.items
@@ -323,9 +322,9 @@ module _ (problem : Problem) (answer : Answer) (faultless : IsFaultless problem 
       second = j;
       ascending = l;
       first_arc = get_or line.arcs.items i d;
-      first_is = slice_get-get_or line.arcs.items i d (omega (arith, l, within));
+      first_is = slice_get-get_or _ i d (omega (arith, l, within));
       second_arc = get_or line.arcs.items j d;
-      second_is = slice_get-get_or line.arcs.items j d within;
+      second_is = slice_get-get_or _ j d within;
       in_first = first;
       in_second = second;
     },

@@ -1,12 +1,12 @@
 -- In a certified answer no fault is.
-use Rattle.std.proofs.Common.{◌≡◌, ℕ, ◌+◌, ◌-◌, ◌<◌, Bool, IsTrue, List, [], length, get_or, slice_get, Some, None}
+use Rattle.std.proofs.Common.{◌≡◌, ℕ, ◌+◌, ◌-◌, ◌<◌, Bool, IsTrue, List, length, get_or, slice_get, Some, None}
 use Rattle.std.proofs.Common.{Option, refl, sym, ap, ◌∙◌, subst, arith, inl, inr, Contains, All, AllPairs}
 use Rattle.std.proofs.{lemmas.List.length-map, lemmas.List.Elements.All-contains, lemmas.Map.Keys.Less-from_sorted}
 use Rattle.std.proofs.lemmas.Option.{slice_get_within, get_or_from_slice_get, slice_get-map}
 use Rattle.std.specs.{Prelude.{option_map, unwrap_or}, List.Sorted.IsStrictlySortedBy}
 use Rattle.tier_core.specs.{declared.sym.Sym.Sym, declared.kind.Kind.Kind, Kinds.{PrefixKind, kind_order}}
 use Rattle.tier_core.specs.Classes.{has, AreDisjoint}
-use Rattle.violation.specs.{Counts.violations_of, Moves.{next_kind, cut_kind}, Prefixes.{kind_of, kind_of_bits}}
+use Rattle.violation.specs.{Counts.violations_of, Moves.{next_kind, cut_kind}, Prefixes.{kind_of_bits}}
 use Rattle.violation.specs.Problems.{Problem, last_stage}
 use Rattle.answer_text.specs.{declared.stage.Node.Node, declared.automaton.ArcLine.ArcLine}
 use Rattle.answer_text.specs.{declared.automaton.StateLine.StateLine, declared.answer.Answer.Answer}
@@ -60,9 +60,9 @@ module _ (problem : Problem) (answer : Answer) where
         let member = contains_numbered _ n k here in
         record {
           possible = All-contains (IsPossibleKind problem r) kinds k certified.kinds member;
-          after = λ l some e. rw (get_or_from_slice_get kinds (n - 1) l k e) at (rw
-              (get_or_from_slice_get kinds n k k here) at (Less-from_sorted kind_order kinds (n - 1) n k
-              certified.ascending (omega (arith, some)) (slice_get_within kinds n k here)));
+          after = λ l some e. rw (get_or_from_slice_get _ _ l k e) at (rw (get_or_from_slice_get _ n k k here) at
+              (Less-from_sorted kind_order kinds (n - 1) n k certified.ascending (omega (arith, some))
+              (slice_get_within _ n k here)));
           cut_before = λ some. All-contains
               (λ x. Contains (kinds_at problem (r - 1) (nodes_at answer.stages.items (r - 1)))
               (cut_kind problem (r - 1) x)) kinds k (certified.cuts some) member;

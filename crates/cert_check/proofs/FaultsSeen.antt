@@ -10,7 +10,7 @@ use Rattle.violation.specs.{Prefixes.kind_of_bits, Problems.{Problem, last_stage
 use Rattle.answer_text.specs.{declared.stage.Node.Node, declared.automaton.ArcLine.ArcLine}
 use Rattle.answer_text.specs.{declared.automaton.StateLine.StateLine, declared.answer.Answer.Answer}
 use Rattle.answer_text.specs.{Right.{nodes_at, kinds_at, numbers_of}, Seen.node_seen}
-use Rattle.answer_text.specs.Values.{ArcValue, NodeValue, StateValue, arc_value, state_value}
+use Rattle.answer_text.specs.Values.{ArcValue, NodeValue, StateValue, arc_value}
 use Rattle.answer_text.specs.Certified.{Lists, IsKeptBelow, IsTightAt, start_potential}
 use Rattle.cert_check.specs.{declared.fault.Fault.Fault, declared.fault.Verdict.Verdict}
 use Rattle.cert_check.specs.declared.fault.Verdict.TheVariants.{Yes, No}
@@ -84,8 +84,7 @@ same_kinds : (s : Two) (r : ℕ)
     → kinds_at (here s) r (nodes_at s.a.stages.items r) ≡ kinds_at (there s) r (nodes_at s.b.stages.items r)
 same_kinds s r =
     let by = map (λ (v : NodeValue). v.kind) in
-    sym (map-map (λ (v : NodeValue). v.kind) (node_seen (here s) r) (nodes_at s.a.stages.items r)) ∙ ap by
-    (s.seen.nodes r) ∙ map-map (λ (v : NodeValue). v.kind) (node_seen (here s) r) (nodes_at s.b.stages.items r) ∙ ap
+    sym (map-map _ _ _) ∙ ap by (s.seen.nodes r) ∙ map-map _ _ _ ∙ ap
     (λ n. map (λ (node : Node). prefix_kind (length s.base.tiers.free) n node.kind) (nodes_at s.b.stages.items r))
     (same_stretch_count s.base _ _ s.asked r)
 
@@ -279,10 +278,7 @@ wrong_start s stage listed count h =
 -- ---- the automaton
 
 same_numbers : (s : Two) → numbers_of s.a.automaton.states.items ≡ numbers_of s.b.automaton.states.items
-same_numbers s =
-    sym (map-map (λ (v : StateValue). v.node) state_value s.a.automaton.states.items)
-    ∙ ap (map (λ (v : StateValue). v.node)) s.seen.states
-    ∙ map-map (λ (v : StateValue). v.node) state_value s.b.automaton.states.items
+same_numbers s = sym (map-map _ _ _) ∙ ap (map (λ (v : StateValue). v.node)) s.seen.states ∙ map-map _ _ _
 
 -- a state of the other answer that is seen as the same
 record Pairs (s : Two) (state : ℕ) (line : StateLine) : Type 0 where

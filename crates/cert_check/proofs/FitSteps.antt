@@ -11,9 +11,9 @@ pub tier_more : (next rest inside : Bool) (test : ℕ → Bool) (tier : ℕ) →
     → (IsTrue rest ↔ ((t : ℕ) → t < tier → test t ≡ true))
     → IsTrue next ↔ ((t : ℕ) → t < tier + 1 → test t ≡ true)
 tier_more next rest inside test tier e is so_far = (
-  λ h. let parts = and_parts rest inside (sym e ∙ h) in
+  λ h. let parts = and_parts _ _ (sym e ∙ h) in
       below_more _ _ (so_far.0 parts.0) (sym is ∙ parts.1),
-  λ h. e ∙ and_from rest inside (so_far.1 (λ t l. h t (omega arith))) (is ∙ h tier (omega arith)),
+  λ h. e ∙ and_from _ _ (so_far.1 (λ t l. h t (omega arith))) (is ∙ h tier (omega arith)),
 )
 
 -- ---- the input part

@@ -69,46 +69,40 @@ module _ (problem : Problem) (k : PrefixKind) (coming still bare : Class) (mask 
 
   quiet_fits : (column : List Sym) → is_quiet column ≡ true → FitsKind problem k column
   quiet_fits column h =
-      let s = (and_parts (has still column) (not (has bare column)) h).0 in
-      let parts = and_parts (has coming column) (not (is_read column)) (sym (has_still column) ∙ s) in
+      let s = (and_parts _ _ h).0 in
+      let parts = and_parts _ _ (sym (has_still column) ∙ s) in
       let w = width_of_column _ parts.0 in
-      let edge = ⊎_elim (λ y. y) (λ none. absurd (both_ways _
-      (not-true (has bare column) (and_parts (has still column) (not (has bare column)) h).1)
+      let edge = ⊎_elim (λ y. y) (λ none. absurd (both_ways _ (not-true _ (and_parts _ _ h).1)
       ((has_bare column w).1 (λ t l. ap not (each_edgeless _ none t (omega (arith, w, l)))))))
       (cases_Bool (has_edge column)) in
-      fits_column _ parts.0 edge (inl (not-true (is_read column) parts.1))
+      fits_column _ parts.0 edge (inl (not-true _ parts.1))
 
   read_here : (column : List Sym) → has coming column ≡ true → is_reading column ≡ true → is_read column ≡ true
-  read_here column f h = ⊎_elim (λ y. y) (λ none. absurd (both_ways _
-      (not-true (has still column) (and_parts (reads column) (not (has still column)) h).1)
-      (has_still column ∙ and_from (has coming column) (not (is_read column)) f (ap not none))))
+  read_here column f h = ⊎_elim (λ y. y)
+      (λ none. absurd (both_ways _ (not-true _ (and_parts _ _ h).1) (has_still column ∙ and_from _ _ f (ap not none))))
       (cases_Bool (is_read column))
 
   reading_fits : (column : List Sym) → is_reading column ≡ true → FitsKind problem k column
   reading_fits column h =
-      let r = (has_read column).0 (and_parts (reads column) (not (has still column)) h).0 in
+      let r = (has_read column).0 (and_parts _ _ h).0 in
       fits_column _ r.0 (input_below _ (width_of_column _ r.0) (read_here _ r.0 h)) (inr r.1)
 
   bare_none : (column : List Sym) → length column ≡ problem.tiers.width → has_edge column ≡ true
       → has bare column ≡ false
-  bare_none column w e = false_from_ne_true (has bare column) (λ b. both_ways _
-      (none_edge column (λ t l. not-true (is_edge (symbol column t)) ((has_bare column w).0 b t (omega (arith, w, l)))))
-      e)
+  bare_none column w e = false_from_ne_true (has bare column)
+      (λ b. both_ways _ (none_edge column (λ t l. not-true _ ((has_bare column w).0 b t (omega (arith, w, l))))) e)
 
   fits_held : (column : List Sym) → FitsKind problem k column → holds column ≡ true
   fits_held column f =
-      ⊎_elim
-      (λ read. or_right (is_quiet column) (is_reading column)
-      (and_from (reads column) (not (has still column))
-      ((has_read column).1 (
+      ⊎_elim (λ read. or_right (is_quiet column) (is_reading column) (and_from _ _ ((has_read column).1 (
         after,
         ⊎_elim (λ none. absurd (both_ways _ none read)) (λ here. here) f.input,
       ))
       (ap not
       (has_still column ∙ ap (λ b. has coming column && not b) read ∙ and_right (has coming column) false refl)))) (λ
-      none. or_left (is_quiet column) (is_reading column) (and_from (has still column) (not (has bare column))
-      (has_still column ∙ and_from (has coming column) (not (is_read column)) after (ap not none))
-      (ap not (bare_none _ f.width f.edge)))) (cases_Bool (is_read column))
+      none. or_left (is_quiet column) (is_reading column) (and_from _ _
+      (has_still column ∙ and_from _ _ after (ap not none)) (ap not (bare_none _ f.width f.edge)))) (cases_Bool (is_read
+      column))
     where
       after : has coming column ≡ true
       after = (comes column f.width).1 (λ t l. ap (λ b. fits b (symbol column t)) (opened t l) ∙ f.symbols t l)
@@ -119,11 +113,9 @@ module _ (problem : Problem) (k : PrefixKind) (coming still bare : Class) (mask 
     both : AddsAlike problem.tiers.width [] two
         (λ column. once_if (is_quiet column) + once_if (is_reading column)) is_read
     both =
-        alike_then _ [] _ _ _ _ _ _ (adds_constant _ [] _ _ _ _ (rw same at first) (λ column h. not-true
-        (is_read column) (and_parts (has coming column) (not (is_read column))
-        (sym (has_still column) ∙ (and_parts (has still column) (not (has bare column)) h).0)).1)) (adds_constant _ _ _
-        _ _ _ (rw also at second)
-        (λ column h. read_here _ ((has_read column).0 (and_parts (reads column) (not (has still column)) h).0).0 h))
+        alike_then _ [] _ _ _ _ _ _ (adds_constant _ [] _ _ _ _ (rw same at first)
+        (λ column h. not-true _ (and_parts _ _ (sym (has_still column) ∙ (and_parts _ _ h).0)).1)) (adds_constant _ _ _
+        _ _ _ (rw also at second) (λ column h. read_here _ ((has_read column).0 (and_parts _ _ h).0).0 h))
         (λ column. refl)
 
     all : AddsClasses problem.tiers.width [] two (λ column. once_if (holds column))
@@ -133,8 +125,7 @@ module _ (problem : Problem) (k : PrefixKind) (coming still bare : Class) (mask 
     are_fitting = record {
       pieces = pieces_added _ _ _ all;
       columns = λ column. (
-        λ h. ⊎_elim (quiet_fits _) (reading_fits _)
-            (or_cases (is_quiet column) (is_reading column) (sym (columns_added _ _ _ all _) ∙ h)),
+        λ h. ⊎_elim (quiet_fits _) (reading_fits _) (or_cases _ _ (sym (columns_added _ _ _ all _) ∙ h)),
         λ f. columns_added _ _ _ all _ ∙ fits_held _ f,
       );
       read = rw both.adds.new_is both.alike;

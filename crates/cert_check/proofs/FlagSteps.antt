@@ -39,7 +39,7 @@ pub flagged_more : (f : ℕ → Bool) (kinds : List TierKind) (tier free mask mo
 flagged_more f kinds tier free mask more d a l h within here others =
     let same =
     fill_by_all (has_tier more) (open_tiers free mask) free false (length-map-range_with_len (has_tier mask) 0 free)
-    (λ k b. get_or-map-range_with_len (has_tier mask) 0 free k k false b (omega arith) ∙ sym (others k b)) in
+    (λ k b. get_or-map-range_with_len _ 0 _ k k false b (omega arith) ∙ sym (others k b)) in
     record {
       few = omega (arith, a.few);
       within = within;

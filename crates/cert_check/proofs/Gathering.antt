@@ -91,8 +91,7 @@ pub shared_all : (arcs : List ArcLine) (place n : ℕ) (class : Class) (xs ys : 
     → AddsColumns xs ys (λ column. has class column && some_has (arc_classes (drop (place + 1) arcs)) column)
 shared_all arcs place n class xs ys l a = adds_same xs ys _ _ (λ column. ap
     (list_any (λ (x : ArcLine). has class column && has x.class column))
-    (take_all (n - (place + 1)) (drop (place + 1) arcs) (omega (arith, l, length-drop (place + 1) arcs))) ∙ common_held
-    _ _ _) a
+    (take_all _ _ (omega (arith, l, length-drop (place + 1) arcs))) ∙ common_held _ _ _) a
 
 pub shared_none : (arcs : List ArcLine) (place : ℕ) (class : Class) (xs : List Class)
     → AddsColumns xs xs (is_shared_to arcs place (place + 1) class)

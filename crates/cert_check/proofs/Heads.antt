@@ -80,11 +80,10 @@ module _ (problem : Problem) (answer : Answer) where
       earlier : (constraint n m : ℕ) → HasWrongCount problem answer constraint n m
           → IsBefore (constraint ∷ []) ((place + 1) ∷ []) → ⊥
       earlier constraint n m w (inl less) =
-          w.differs (w.listed_is ∙ sym (get_or-take place answer.counts.items (constraint - 1) 0
-          (omega (arith, less, w.some)))
-          ∙ ap (λ (v : List ℕ). get_or v (constraint - 1) 0) first
-          ∙ get_or-take place (counts_on problem answer.example) (constraint - 1) 0 (omega (arith, less, w.some))
-          ∙ sym w.counted_is)
+          w.differs (w.listed_is ∙ sym
+          (get_or-take place answer.counts.items (constraint - 1) 0 (omega (arith, less, w.some))) ∙ ap
+          (λ (v : List ℕ). get_or v (constraint - 1) 0) first ∙ get_or-take _ _ (constraint - 1) 0
+          (omega (arith, less, w.some)) ∙ sym w.counted_is)
       earlier constraint n m w (inr same) = same.1
 
   pub first_counts : HasRightForm problem → HasRightNumbers problem answer → IsCandidate problem answer.example

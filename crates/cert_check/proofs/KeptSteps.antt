@@ -45,7 +45,7 @@ module _ (problem : Problem) (stage : ℕ) (k : PrefixKind) where
 
   pub kept_of_all : (classes : List Class) (n : ℕ) (kept : List KeptPiece) → length classes ≤ n
       → AreKeptOf problem stage k (take n classes) kept → AreKeptOf problem stage k classes kept
-  kept_of_all classes n kept l a = rw (take_all n classes l) at a
+  kept_of_all classes n kept l a = rw (take_all n _ l) at a
 
   -- what is left of a kind's columns, in pieces, is what is kept
   pub kept_from_pruned : (stages : List Stage) (below : ℕ) (classes : List Class) (kept : List KeptPiece)

@@ -2,7 +2,7 @@
 use Rattle.std.proofs.Common.{◌≡◌, ℕ, length}
 use Rattle.tier_core.specs.{declared.kind.Kind.Kind, Kinds.PrefixKind}
 use Rattle.violation.specs.{Prefixes.stretches, Problems.Problem}
-use Rattle.violation.proofs.KindBits.{AreBitsOf, kind_for, one_told}
+use Rattle.violation.proofs.KindBits.{kind_for, one_told}
 use Rattle.cert_check.specs.Faults.{TellsKind}
 
 -- some bits tell a kind that has as many flags and phases as the problem has free tiers and stretch implications

@@ -33,28 +33,28 @@ module _ (s : Subject) (staged : IsRightBeforeStates s) where
     -- the place of its node is in the form
     pub place_within : node.kind.place ≤ last_place (problem_of s)
     place_within = so_unless (at_most _ _) (λ no. staged.right 4 (omega arith) (last ∷ 0 ∷ state.node ∷ []) (
-          last,
+      last,
+      (
+        0,
+        (
+          state.node ∷ [],
           (
-            0,
             (
-              state.node ∷ [],
+              state.node,
               (
-                (
-                  state.node,
-                  (
-                    record {
-                      node = node;
-                      is = at.is;
-                      wrong = λ o. no o.possible.place;
-                    },
-                    refl,
-                  ),
-                ),
+                record {
+                  node = node;
+                  is = at.is;
+                  wrong = λ o. no o.possible.place;
+                },
                 refl,
               ),
             ),
+            refl,
           ),
-        ))
+        ),
+      ),
+    ))
 
     -- a kept move leads to a kind that is listed
     module _ (column : List Sym) (target : Kind)
@@ -134,7 +134,7 @@ module _ (s : Subject) (staged : IsRightBeforeStates s) where
         (last_kind s node) pieces → All (IsTargetListed s (last_stage (problem_of s))) pieces
     targets_listed pieces kept i d l =
         let piece = get_or pieces i d in
-        let here = piece_at kept i piece l (get_or_default pieces i d piece l) in
+        let here = piece_at kept i piece l (get_or_default _ i d _ l) in
         let column = first_column piece.class in
         let held = has-first_column piece.class here.filled in
         target_listed column piece.target (here.keeps column held) (here.told.leads column held)

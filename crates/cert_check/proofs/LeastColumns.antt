@@ -63,10 +63,10 @@ module _ (classes : List Class) (n : ℕ) (class : Class) (within : n < length c
   least_first : IsNoColumn (some_has (take n classes)) → IsLeastColumn (some_has (take (n + 1) classes)) own
   least_first none = record {
     is = more _ ∙ or_right (some_has (take n classes) own) (has class own) held;
-    first = λ other h before. elim (or_cases (some_has (take n classes) other) (has class other) (sym (more _) ∙ h)) [
-          | inl e ↦ true≢false (sym e ∙ none other)
-          | inr e ↦ not_after_is _ _ (first other e) before
-        ];
+    first = λ other h before. elim (or_cases _ _ (sym (more _) ∙ h)) [
+      | inl e ↦ true≢false (sym e ∙ none other)
+      | inr e ↦ not_after_is _ _ (first other e) before
+    ];
   }
 
   -- the lesser of the least columns so far and of the class
@@ -74,10 +74,10 @@ module _ (classes : List Class) (n : ℕ) (class : Class) (within : n < length c
       → IsLesser column own lesser → IsLeastColumn (some_has (take (n + 1) classes)) lesser
   least_next column lesser so_far two = record {
     is = more _ ∙ held_by two.one;
-    first = λ other h before. elim (or_cases (some_has (take n classes) other) (has class other) (sym (more _) ∙ h)) [
-          | inl e ↦ so_far.first other e (earlier _ _ _ before two.not_after_first)
-          | inr e ↦ not_after_is _ _ (first other e) (earlier _ _ _ before two.not_after_second)
-        ];
+    first = λ other h before. elim (or_cases _ _ (sym (more _) ∙ h)) [
+      | inl e ↦ so_far.first other e (earlier _ _ _ before two.not_after_first)
+      | inr e ↦ not_after_is _ _ (first other e) (earlier _ _ _ before two.not_after_second)
+    ];
   }
     where
       held_by : (lesser ≡ column) ⊎ (lesser ≡ own) → (some_has (take n classes) lesser || has class lesser) ≡ true

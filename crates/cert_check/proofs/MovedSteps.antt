@@ -59,10 +59,9 @@ module _ (s : Subject) (ready : IsReady s) (stage : ℕ) (within : stage ≤ las
       let ph = first_phase (drop place k.phases) in
       let over = over_at number c (omega arith) is in
       let size = length-take stage cs in
-      let here = is ∙ sym (get_or-take stage cs number c (omega arith)) in
+      let here = is ∙ sym (get_or-take _ cs _ c (omega arith)) in
       let before =
-      count ∙ get_or_default s.shape.now.phases.items number place 0 (stage_in s ready number (omega arith))
-      ∙ stretch_same s ready number (omega arith)
+      count ∙ get_or_default _ _ _ 0 (stage_in s ready number (omega arith)) ∙ stretch_same s ready number (omega arith)
       ∙ ap (λ xs. length (filter is_stretch xs)) (sym (take-take number stage cs (omega arith))) in
       let below =
       subst (λ n. kind.unmet < 2 ^ n) (stretch_same s ready _ within) fits.stretches.unmet in

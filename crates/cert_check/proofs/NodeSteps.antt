@@ -111,10 +111,9 @@ module _ (problem : Problem) (answer : Answer) (stage n : ℕ) (node : Node) (is
 some_index : (classes : List Class) (column : List Sym) (d : Class) → some_has classes column ≡ true
     → (i : ℕ) × ((i < length classes) × (has (get_or classes i d) column ≡ true))
 some_index [] column d h = absurd (false≢true h)
-some_index (class ∷ classes) column d h = ⊎_elim
-    (λ here. (zero, (omega arith, here)))
+some_index (class ∷ classes) column d h = ⊎_elim (λ here. (zero, (omega arith, here)))
     (λ there. let rest = some_index classes column d there in (suc rest.0, (omega (arith, rest.1.0), rest.1.1)))
-    (or_cases (has class column) (some_has classes column) h)
+    (or_cases _ _ h)
 
 module _ {problem : Problem} {answer : Answer} {stage n : ℕ} {classes : List Class} where
   module _ {best next : ℕ} (so_far : IsLeastWrong problem answer stage n classes next best)
@@ -123,7 +122,7 @@ module _ {problem : Problem} {answer : Answer} {stage n : ℕ} {classes : List C
     at_next P d p = subst P (e ∙ default next _ d) p
       where
         default : (m : ℕ) (a b : Class) → get_or classes next a ≡ get_or classes next b
-        default m a b = get_or_default classes next a b inside
+        default m a b = get_or_default _ _ a b inside
 
     -- nothing is wrong on the next class
     pub least_same : AreRightOn problem answer stage n class
@@ -169,7 +168,7 @@ module _ {problem : Problem} {answer : Answer} {stage n : ℕ} {classes : List C
             λ b.
                 let mine = at_next (λ c. IsBefore (column_place (first_column c))
                 (column_place (first_column first))) d before in
-                let best_is = f ∙ get_or_default classes best first d some in
+                let best_is = f ∙ get_or_default _ _ _ d some in
                 let mine =
                 subst (λ c. IsBefore (column_place (first_column (get_or classes next d)))
                 (column_place (first_column c))) best_is mine in
@@ -192,7 +191,7 @@ module _ {problem : Problem} {answer : Answer} {stage n : ℕ} {classes : List C
       wrong = so_far.wrong;
       others = λ m d l. ⊎_elim (λ below. so_far.others m d below)
           (λ above. let same : next ≡ m = omega arith in
-          let best_is = f ∙ get_or_default classes best first d some in
+          let best_is = f ∙ get_or_default _ _ _ d some in
           inr (
             some,
             subst (λ i. IsNotAfter (get_or classes best d) (get_or classes i d)) same
@@ -283,14 +282,13 @@ pub piece_at : {problem : Problem} {stages : List Stage} {stage below : ℕ} {k 
 piece_at {problem} {stage = stage} {k = k} {pieces} kept n piece inside is =
     let within : n < length (kept_classes pieces) =
     omega (arith, inside, length-map pieces (λ (p : KeptPiece). p.class)) in
-    let class = ap (λ (p : KeptPiece). p.class) is ∙ sym (get_or-map _ _ n _ piece.class inside) in
+    let class = ap (λ (p : KeptPiece). p.class) is ∙ sym (get_or-map _ _ n _ _ inside) in
     record {
       within = within;
       class = class;
       filled = rw class (kept.pieces.filled n piece.class within);
       keeps = λ column h. (kept.columns column).0
-          (list_any_at (λ class. has class column) (kept_classes pieces) n piece.class within
-          (ap (λ class. has class column) (sym class) ∙ h));
+          (list_any_at _ _ n _ within (ap (λ class. has class column) (sym class) ∙ h));
       told = rw is (kept.each n piece inside);
     }
 

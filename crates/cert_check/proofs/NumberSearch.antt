@@ -22,11 +22,11 @@ module _ {X : Type 0} (key : X → ℕ) (x : ℕ) where
   module _ (xs : List X) (sorted : IsStrictlySortedBy nat_cmp (map key xs)) where
     rises : IsNonDecreasingBy (λ y. ordering_index (nat_cmp (key y) x)) xs
     rises i j d h l = index_rises _ (key (get_or xs j d)) x (⊎_elim (λ below. omega (
-          arith,
-          get_or-map key xs i d x (omega arith),
-          get_or-map key xs j d x l,
-          below_from_sorted (map key xs) i j x sorted below (omega (arith, l, length-map xs key)),
-        ))
+      arith,
+      get_or-map key xs i d x (omega arith),
+      get_or-map key xs j d x l,
+      below_from_sorted _ i j x sorted below (omega (arith, l, length-map xs key)),
+    ))
         (λ above. let is : i ≡ j = omega arith in omega (arith, ap (λ n. key (get_or xs n d)) is))
         (cases_lt i j))
 

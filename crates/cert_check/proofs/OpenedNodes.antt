@@ -1,5 +1,5 @@
 -- The bits of a node's open tiers.
-use Rattle.std.proofs.Common.{◌≡◌, ℕ, ◌^◌, ◌<◌, ◌≤◌, get_or, length, subst}
+use Rattle.std.proofs.Common.{ℕ, ◌^◌, ◌<◌, ◌≤◌, length, subst}
 use Rattle.std.proofs.lemmas.Option.{slice_get_within, get_or_from_slice_get}
 use Rattle.tier_core.specs.KindShapes.{free_count}
 use Rattle.violation.specs.Problems.{last_stage}

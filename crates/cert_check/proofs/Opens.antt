@@ -7,7 +7,7 @@ use Rattle.tier_core.specs.{declared.sym.Sym.Sym, declared.tier.TierKind.TierKin
 use Rattle.tier_core.specs.declared.tier.TierKind.TheVariants.{Input}
 use Rattle.tier_core.specs.{Tiers.{is_input, is_free, kind_at, has_tier, numbers_from}, Kinds.open_tiers, Scan.opens}
 use Rattle.tier_core.specs.{Tables.tiers_of_table, Timelines.{tier_word, symbol, IsWellFormed}}
-use Rattle.tier_core.specs.{declared.sym.Sym.TheVariants.Outside, declared.kind.Kind.Kind}
+use Rattle.tier_core.specs.{declared.kind.Kind.Kind}
 use Rattle.tier_core.specs.{declared.constraint.Constraint.Constraint, declared.tier.TierTable.TierTable}
 use Rattle.tier_core.proofs.{WordLemmas.open_suc, WordForm.runs_from_well_formed}
 use Rattle.violation.specs.{Candidates.IsForm, Moves.{flag_of, form_opened, is_tier_open}}
@@ -43,7 +43,7 @@ inputs_in (k ∷ ks) (suc t) l h =
     )
 
 pub all_inputs : (kinds : List TierKind) → inputs_before kinds (length kinds) ≡ length (filter is_input kinds)
-all_inputs kinds = ap (λ ks. length (filter is_input ks)) (take_all (length kinds) kinds (omega arith))
+all_inputs kinds = ap (λ ks. length (filter is_input ks)) (take_all _ kinds (omega arith))
 
 -- ---- flags of the tiers that pass a test
 
@@ -89,7 +89,7 @@ flag_number test (k ∷ ks) n zero flags l = own _ _
         ≡ cond b (get_or fs 0 false) false
     own true [] = refl
     own true (f ∷ fs) = ap (λ b. cond b f (flag_of (numbers_from test (suc n) ks) fs (n + 0)))
-        (eq-eqb n (n + 0) (omega arith))
+        (eq-eqb n _ (omega arith))
     own false fs = flag_lower _ ks _ _ fs (omega arith)
 flag_number test (k ∷ ks) n (suc t) flags l =
     own (λ fs. let e : n + suc t ≡ suc n + t = omega arith in ap (λ m. flag_of (numbers_from test (suc n) ks) fs m) e ∙
@@ -135,7 +135,7 @@ form_open width u (suc p) j form h l =
     let well = runs_from_well_formed _ (form.each_tier j h) in
     let size = length-map u (λ (column : List Sym). symbol column j) in
     ap is_open (take_word u (suc p) j) ∙ prefix_open (tier_word u j) (suc p) well (omega (arith, size, l)) ∙ open_suc
-    false _ p (omega (arith, size, l)) ∙ ap opens (get_or-map _ u p [] Outside (omega (arith, l)))
+    false _ p (omega (arith, size, l)) ∙ ap opens (get_or-map _ u p [] _ (omega (arith, l)))
 
 cond_where : (b x y : Bool) → (b ≡ true → x ≡ y) → cond b x false ≡ cond b y false
 cond_where true x y h = h refl
@@ -184,11 +184,8 @@ module _ (table : TierTable) (constraints : List Constraint) (u : List (List Sym
         ∙ cond_where (is_input (kind_at kinds t)) (get_or inputs (inputs_before kinds t) false) first (λ h.
         let below : inputs_before kinds t < length (numbers_from is_input 0 kinds) = omega
         (arith, inputs_in kinds t l h, length-numbers is_input 0 kinds) in
-        get_or-map-range_with_len (λ j. is_open (tier_word (take kind.place u) j)) 0
-        (length (numbers_from is_input 0 kinds)) (inputs_before kinds t) (inputs_before kinds t) false below
-        (omega arith)
-        ∙ form_open (length (numbers_from is_input 0 kinds)) u kind.place
-        (inputs_before kinds t) form.well_formed below within)
+        get_or-map-range_with_len _ 0 _ _ _ false below (omega arith) ∙ form_open
+        (length (numbers_from is_input 0 kinds)) u kind.place (inputs_before kinds t) form.well_formed below within)
 
     free : flag_of (numbers_from is_free 0 kinds) frees t ≡ cond (not (is_input (kind_at kinds t))) second false
     free =
@@ -198,9 +195,8 @@ module _ (table : TierTable) (constraints : List Constraint) (u : List (List Sym
         (get_or frees (length (filter is_free (take t kinds))) false) second (λ h.
         let below : t - inputs_before kinds t < length (numbers_from is_free 0 kinds) = omega
         (arith, free_in kinds t l h, length-numbers is_free 0 kinds) in
-        ap (λ n. get_or frees n false) (frees_before kinds t (omega (arith, l)))
-        ∙ get_or-map-range_with_len (has_tier kind.opened) 0 (length (numbers_from is_free 0 kinds))
-        (t - inputs_before kinds t) (t - inputs_before kinds t) false below (omega arith))
+        ap (λ n. get_or frees n false) (frees_before kinds t (omega (arith, l))) ∙ get_or-map-range_with_len _ 0 _ _ _
+        false below (omega arith))
 
     -- a tier is open at a kind as it is told tier by tier
     pub open_told : is_tier_open (problem_from table constraints u)

@@ -38,7 +38,7 @@ module _ (s : Subject) (stage : ℕ) where
       → IsInOrder problem s.answer.now.stages.items stage n (node_kind s stage n)
       → 1 ≤ n → kind_order (node_kind s stage (n - 1)) (node_kind s stage n) ≡ Less
   after_by n l o some = o.after (node_kind s _ _) some
-      (slice_get-get_or (stage_kinds s stage) (n - 1) (kind_of problem stage []) (omega (arith, l, kind_count)))
+      (slice_get-get_or _ (n - 1) (kind_of problem stage []) (omega (arith, l, kind_count)))
 
   -- nodes that all stand where they may ascend
   pub ascends_by : AreFirstNodesInOrder s stage (length (stage_nodes s stage)) → AscendsAt s stage
@@ -50,8 +50,7 @@ module _ (s : Subject) (stage : ℕ) where
   -- the kind of a node by its number
   pub numbered_is : (n : ℕ) (node : Node) → HasNode s.answer.now stage n node
       → kind_of_bits problem stage node.kind ≡ node_kind s stage n
-  numbered_is n node h = sym (get_or_from_slice_get (stage_kinds s stage) n (kind_of_bits problem stage node.kind)
-      (kind_of problem stage []) (kind_of_node problem s.answer.now stage n node h))
+  numbered_is n node h = sym (get_or_from_slice_get _ n _ _ (kind_of_node problem s.answer.now stage n node h))
 
   -- there is a node with each number
   pub node_there : IsReady s → stage ≤ last_stage problem → (n : ℕ) → n < length (stage_nodes s stage)
@@ -70,18 +69,18 @@ module _ (s : Subject) (stage : ℕ) where
       → (IsInOrder problem s.answer.now.stages.items stage n (node_kind s stage n) → ⊥)
       → AreFirstNodesInOrder s stage n → IsFirstInStage problem s.answer.now stage (NodeWrong stage n)
   first_wrong ready within n l wrong before = let there = node_there ready within n l in record {
-        place = 0 ∷ n ∷ [];
-        is = (
-          record {
-            node = there.0;
-            is = there.1;
-            wrong = λ o. wrong (rw (numbered_is n there.0 there.1) at o);
-          },
-          refl,
-        );
-        first = none_before _ 0 (n ∷ []) (λ m h. absurd (omega arith))
-            (λ rest w b. earlier _ w.1.0 (subst (λ q. IsBefore q (n ∷ [])) w.1.1 b));
-      }
+    place = 0 ∷ n ∷ [];
+    is = (
+      record {
+        node = there.0;
+        is = there.1;
+        wrong = λ o. wrong (rw (numbered_is n there.0 there.1) at o);
+      },
+      refl,
+    );
+    first = none_before _ 0 (n ∷ []) (λ m h. absurd (omega arith))
+        (λ rest w b. earlier _ w.1.0 (subst (λ q. IsBefore q (n ∷ [])) w.1.1 b));
+  }
     where
       earlier : (m : ℕ) → HasWrongNode problem s.answer.now stage m → IsBefore (m ∷ []) (n ∷ []) → ⊥
       earlier m w (inl less) = w.wrong (rw ((numbered_is m w.node w.is)) (before m less))

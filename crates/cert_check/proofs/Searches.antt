@@ -14,11 +14,9 @@ use Rattle.cert_check.specs.Searches.{told_in}
 module _ (kinds : List PrefixKind) (key : PrefixKind) (sorted : IsStrictlySortedBy kind_order kinds) where
   pub all_below : (m : ℕ) → m < length kinds → kind_order (get_or kinds m key) key ≡ Less → (i : ℕ) → i < m + 1
       → kind_order (get_or kinds i key) key ≡ Less
-  all_below m l e i h = ⊎_elim
-      (λ below. kind_order_total.trans (get_or kinds i key) (get_or kinds m key) key
-      (Less-from_sorted kind_order kinds i m key sorted below l) e)
-      (λ above. let is : i ≡ m = omega arith in ap (λ n. kind_order (get_or kinds n key) key) is ∙ e)
-      (cases_lt i m)
+  all_below m l e i h = ⊎_elim (λ below. kind_order_total.trans (get_or kinds i key) (get_or kinds m key) key
+      (Less-from_sorted _ _ i m key sorted below l) e)
+      (λ above. let is : i ≡ m = omega arith in ap (λ n. kind_order (get_or kinds n key) key) is ∙ e) (cases_lt i m)
 
   pub all_above : (m : ℕ) → m < length kinds → kind_order (get_or kinds m key) key ≡ Greater → (i : ℕ) → m ≤ i
       → i < length kinds → kind_order (get_or kinds i key) key ≡ Greater
@@ -26,7 +24,7 @@ module _ (kinds : List PrefixKind) (key : PrefixKind) (sorted : IsStrictlySorted
       (λ below.
       let first = kind_order_total.antisymm key (get_or kinds m key) ∙ ap ordering_reverse e in
       let later = kind_order_total.trans key (get_or kinds m key) (get_or kinds i key) first
-      (Less-from_sorted kind_order kinds m i key sorted below k) in
+      (Less-from_sorted _ _ m i key sorted below k) in
       kind_order_total.antisymm (get_or kinds i key) key ∙ ap ordering_reverse later)
       (λ above. let is : i ≡ m = omega arith in ap (λ n. kind_order (get_or kinds n key) key) is ∙ e)
       (cases_lt m i)
@@ -54,7 +52,7 @@ module _ (shape : Shape) (stage : ℕ) (nodes : List Node) (key : Kind)
 
   compared : (o : Ordering) → kind_order (kind_in shape stage (get_or nodes middle node).kind) wanted ≡ o
       → kind_order (get_or kinds middle wanted) wanted ≡ o
-  compared o e = ap (λ k. kind_order k wanted) (get_or-map _ _ _ _ wanted inside) ∙ e
+  compared o e = ap (λ k. kind_order k wanted) (get_or-map _ _ _ _ _ inside) ∙ e
 
   pub before_middle : kind_order (kind_in shape stage (get_or nodes middle node).kind) wanted ≡ Less → (i : ℕ)
       → i < middle + 1 → kind_order (get_or kinds i wanted) wanted ≡ Less
@@ -67,7 +65,7 @@ module _ (shape : Shape) (stage : ℕ) (nodes : List Node) (key : Kind)
 
   pub at_middle : kind_order (kind_in shape stage (get_or nodes middle node).kind) wanted ≡ Equal
       → slice_get kinds middle ≡ Some wanted
-  at_middle e = slice_get-get_or kinds middle wanted (omega (arith, inside, size)) ∙ ap (λ (k : PrefixKind). Some k)
+  at_middle e = slice_get-get_or _ middle wanted (omega (arith, inside, size)) ∙ ap (λ (k : PrefixKind). Some k)
       (same_kind _ _ (compared _ e))
 
 less_told : (o : Ordering) → is_lt o ≡ true → o ≡ Less

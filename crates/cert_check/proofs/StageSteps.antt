@@ -28,15 +28,15 @@ module _ (s : Subject) (stage : ℕ) (ready : IsReady s) (within : stage ≤ las
       → node ≡ get_or ns n node → HasNode s.answer.now stage n node
   node_here ns n node e l f = record {
     within = in_stages s ready _ within;
-    numbered = slice_get-get_or (stage_nodes s stage) n node (omega (arith, l, ap (λ (xs : List Node). length xs) e))
-        ∙ ap (λ (x : Node). Some x) (sym (f ∙ ap (λ (xs : List Node). get_or xs n node) e));
+    numbered = slice_get-get_or _ n _ (omega (arith, l, ap (λ (xs : List Node). length xs) e)) ∙ ap
+        (λ (x : Node). Some x) (sym (f ∙ ap (λ (xs : List Node). get_or xs n node) e));
   }
 
   -- a node that stands where it may has its place in the form
   pub place_in : AreFirstNodesInOrder s stage (length (stage_nodes s stage)) → (n : ℕ) (node : Node)
       → HasNode s.answer.now stage n node → node.kind.place ≤ last_place (problem_of s)
   place_in order n node h =
-      let o = order n (slice_get_within (stage_nodes s stage) n node h.numbered) in
+      let o = order n (slice_get_within _ n _ h.numbered) in
       subst (λ k. k.place ≤ last_place (problem_of s)) (sym (numbered_is s _ n _ h)) o.possible.place
 
   module _ (order : AreFirstNodesInOrder s stage (length (stage_nodes s stage)))
@@ -71,12 +71,12 @@ module _ (s : Subject) (stage : ℕ) (ready : IsReady s) (within : stage ≤ las
       where
         of_node : (n part : ℕ) (rest : List ℕ) → InNode problem answer stage n part rest
             → n < length (stage_nodes s stage)
-        of_node n zero rest w = slice_get_within (stage_nodes s stage) n w.1.0.node w.1.0.is.numbered
+        of_node n zero rest w = slice_get_within _ n _ w.1.0.is.numbered
         of_node n (suc zero) rest w = by _ w.1.0
           where
             by : (column : List Sym) → IsWrongMove problem answer stage n column → n < length (stage_nodes s stage)
-            by column (inl v) = slice_get_within (stage_nodes s stage) n v.1.node v.1.is.numbered
-            by column (inr v) = slice_get_within (stage_nodes s stage) n v.1.1.node v.1.1.is.numbered
+            by column (inl v) = slice_get_within _ n _ v.1.is.numbered
+            by column (inr v) = slice_get_within _ n _ v.1.1.is.numbered
         of_node n (suc (suc part)) rest w = absurd w
 
         below_start : (m : ℕ) → m < 3 → (rest : List ℕ) → InStage problem answer stage m rest → ⊥
@@ -88,7 +88,7 @@ module _ (s : Subject) (stage : ℕ) (ready : IsReady s) (within : stage ≤ las
         some_nodes : 0 < length (stage_nodes s stage)
         some_nodes = omega (
           arith,
-          slice_get_within (stage_kinds s stage) 0 (kind_of (problem_of s) stage []) start,
+          slice_get_within _ 0 _ start,
           length-map (stage_nodes s stage) (λ (node : Node). kind_of_bits (problem_of s) stage node.kind),
         )
 
@@ -101,7 +101,7 @@ module _ (s : Subject) (stage : ℕ) (ready : IsReady s) (within : stage ≤ las
         right_stage listed is same (suc (suc (suc zero))) rest w =
             let h = w.1.1.0 in
             let here =
-            get_or_from_slice_get (stage_nodes s stage) 0 h.node h.node h.is.numbered in
+            get_or_from_slice_get _ 0 _ _ h.is.numbered in
             h.differs (h.listed_is ∙ ap (λ (x : Node). x.potential) (sym here) ∙ sym (is h.node) ∙ same
             ∙ sym h.count_is)
         right_stage listed is same (suc (suc (suc (suc m)))) rest w = absurd w
@@ -122,7 +122,7 @@ module _ (s : Subject) (stage : ℕ) (ready : IsReady s) (within : stage ≤ las
                   node = get_or (stage_nodes s stage) 0 node;
                   is = record {
                     within = in_stages s ready _ within;
-                    numbered = slice_get-get_or (stage_nodes s stage) 0 node some_nodes;
+                    numbered = slice_get-get_or _ 0 _ some_nodes;
                   };
                   listed_is = is node;
                   count_is = same;

@@ -90,8 +90,7 @@ module _ (s : Subject) (stage : ℕ) where
         → InStage problem s.answer.now stage 0 rest → ⊥
     order_part order rest w =
         let h = w.1.0 in
-        h.wrong (rw ((numbered_is s stage w.0 h.node h.is))
-        (order w.0 (slice_get_within (stage_nodes s stage) w.0 h.node h.is.numbered)))
+        h.wrong (rw ((numbered_is s stage w.0 h.node h.is)) (order w.0 (slice_get_within _ _ _ h.is.numbered)))
 
     below_one : AreFirstNodesInOrder s stage (length (stage_nodes s stage)) → (m : ℕ) → m < 1 → (rest : List ℕ)
         → InStage problem s.answer.now stage m rest → ⊥

@@ -1,8 +1,8 @@
 -- The first fault of a state.
-use Rattle.std.proofs.Common.{◌≡◌, ℕ, zero, suc, ◌<◌, Bool, true, false, IsTrue, List, [], ◌∷◌, slice_get, Some}
+use Rattle.std.proofs.Common.{◌≡◌, ℕ, zero, suc, ◌<◌, Bool, true, false, List, [], ◌∷◌, slice_get, Some}
 use Rattle.std.proofs.Common.{Option, refl, sym, ap, ◌∙◌, subst, arith, inl, inr, Contains, true≢false}
 use Rattle.std.specs.{List.Sorted.IsStrictlySortedBy, Ordering.nat_cmp}
-use Rattle.tier_core.specs.{declared.sym.Sym.Sym, Classes.has, Kinds.PrefixKind}
+use Rattle.tier_core.specs.{declared.sym.Sym.Sym, Kinds.PrefixKind}
 use Rattle.violation.specs.{Moves.is_final, Problems.{Problem}}
 use Rattle.answer_text.specs.{declared.automaton.ArcLine.ArcLine, declared.automaton.StateLine.StateLine}
 use Rattle.answer_text.specs.{declared.answer.Answer.Answer, Right.{numbers_of}}

@@ -33,7 +33,7 @@ module _ (problem : Problem) (answer : Answer)
   line_of state (suc (suc (suc (suc part)))) rest w = absurd w
 
   numbered : (line : StateLine) (h : Contains states line) → slice_get states h.0 ≡ Some line
-  numbered line h = slice_get-get_or states h.0 line h.1 ∙ ap (λ (x : StateLine). Some x) h.2
+  numbered line h = slice_get-get_or _ _ _ h.1 ∙ ap (λ (x : StateLine). Some x) h.2
 
   -- and one more
   pub right_more : (count : ℕ) (line : StateLine) → slice_get answer.automaton.states.items count ≡ Some line
@@ -70,7 +70,7 @@ module _ (problem : Problem) (answer : Answer)
       (λ below. below)
       (λ above. ⊎_elim
       (λ over.
-      let rises = below_from_sorted (numbers_of states) count h.0 0 ascending over
+      let rises = below_from_sorted _ _ _ 0 ascending over
       (omega (arith, h.1, length-map states (λ (x : StateLine). x.node))) in
       absurd (omega (
         arith,
@@ -89,10 +89,10 @@ module _ (problem : Problem) (answer : Answer)
       (cases_lt h.0 count)
     where
       within : count < length states
-      within = slice_get_within states count line is
+      within = slice_get_within _ _ _ is
 
       at : get_or states count line ≡ line
-      at = get_or_from_slice_get states count line line is
+      at = get_or_from_slice_get states _ _ _ is
 
   -- the first fault of a state comes first, where the states before it are right
   pub first_state : IsState answer 0 → (count : ℕ) (line : StateLine)
@@ -149,8 +149,8 @@ module _ (states : List StateLine) (s : Subject) (staged : IsRightBeforeStates s
     (is : states ≡ s.answer.now.automaton.states.items) (i : ℕ) (line : StateLine) (within : i < length states)
     (item : line ≡ get_or states i line) where
   pub state_read : slice_get s.answer.now.automaton.states.items i ≡ Some line
-  state_read = ap (λ (xs : List StateLine). slice_get xs i) (sym is)
-      ∙ slice_get-get_or states i line within ∙ ap (λ (x : StateLine). Some x) (sym item)
+  state_read = ap (λ (xs : List StateLine). slice_get xs i) (sym is) ∙ slice_get-get_or _ i _ within ∙ ap
+      (λ (x : StateLine). Some x) (sym item)
 
   pub state_here : (nodes : List Node) (stage : Stage) (count : ℕ) (node : Node) → nodes ≡ stage.nodes.items
       → count ≡ last_stage (problem_of s) → stage ≡ get_or s.answer.now.stages.items count stage
@@ -159,8 +159,8 @@ module _ (states : List StateLine) (s : Subject) (staged : IsRightBeforeStates s
       let lines = s.answer.now.automaton.states.items in
       let listed : Contains lines line = (
         i,
-        slice_get_within lines i line state_read,
-        get_or_from_slice_get lines i line line state_read,
+        slice_get_within _ i _ state_read,
+        get_or_from_slice_get _ i _ _ state_read,
       ) in
       let own =
       nodes_read s staged.ready _ (omega arith) _ _ here (rw counted at e) in
@@ -169,7 +169,7 @@ module _ (states : List StateLine) (s : Subject) (staged : IsRightBeforeStates s
         listed = listed;
         is = record {
           within = in_stages s staged.ready _ (omega arith);
-          numbered = ap (λ (xs : List Node). slice_get xs line.node) (sym own)
-              ∙ slice_get-get_or nodes line.node node inside ∙ ap (λ (x : Node). Some x) (sym f);
+          numbered = ap (λ (xs : List Node). slice_get xs line.node) (sym own) ∙ slice_get-get_or _ _ _ inside ∙ ap
+              (λ (x : Node). Some x) (sym f);
         };
       }

@@ -1,5 +1,5 @@
 -- What is known of a state that is looked at.
-use Rattle.std.proofs.Common.{◌≡◌, ◌^◌, ◌<◌, List, length, ◌∙◌, subst, arith, All, refl}
+use Rattle.std.proofs.Common.{◌≡◌, ◌^◌, ◌<◌, length, ◌∙◌, subst, arith, All, refl}
 use Rattle.std.proofs.{lemmas.List.Elements.All-contains, lemmas.Option.{slice_get_within, get_or_from_slice_get}}
 use Rattle.std.specs.{List.Sorted.IsStrictlySortedBy, Ordering.nat_cmp}
 use Rattle.tier_core.specs.{Classes.sets_of, KindShapes.FitsShape}

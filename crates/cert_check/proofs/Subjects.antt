@@ -1,5 +1,5 @@
 -- What is known of an answer when its stages are looked at.
-use Rattle.std.proofs.Common.{◌≡◌, ◌↔◌, ℕ, ◌+◌, ◌-◌, ◌<◌, ◌≤◌, ◌&&◌, not, Bool, List, [], ◌∷◌, map, filter}
+use Rattle.std.proofs.Common.{◌≡◌, ◌↔◌, ℕ, ◌+◌, ◌-◌, ◌<◌, ◌≤◌, ◌&&◌, not, Bool, List, [], ◌∷◌, map}
 use Rattle.std.proofs.Common.{take, length, get_or, refl, sym, ap, ap₂, ◌∙◌, arith, All}
 use Rattle.std.proofs.lemmas.List.{get_or-map, get_or_default, get_or-take, length-take-le}
 use Rattle.std.proofs.lemmas.List.Elements.{All-from_recursion}
@@ -13,7 +13,7 @@ use Rattle.tier_core.specs.{KindShapes.{free_count, stretch_count, kind_in, Fits
 use Rattle.tier_core.proofs.{TableMasks.free_tiers, Members.all_first}
 use Rattle.grammar_reader.proofs.{Shaping.{length-stretch_counts, count_rises}, OverTiers.over_tiers}
 use Rattle.violation.specs.{Conditions.{AreTiersBelow, IsOverTiers}, Moves.{is_tier_open, cut_kind}}
-use Rattle.violation.specs.{Phases.{AreClosedOr}, Prefixes.{kind_of, stretches, kind_of_bits}}
+use Rattle.violation.specs.{Phases.{AreClosedOr}, Prefixes.{stretches, kind_of_bits}}
 use Rattle.violation.specs.Problems.{Problem, last_stage, last_place}
 use Rattle.answer_text.specs.{declared.stage.Node.Node, declared.stage.Stage.Stage, Certified.IsPossibleKind}
 use Rattle.answer_text.specs.{Readable.IsReadableStage, Right.{nodes_at, kinds_at}}
@@ -65,9 +65,8 @@ module _ (s : Subject) (ready : IsReady s) (stage : ℕ) (within : stage ≤ las
 
   pub stretch_same : stretch_count shape stage ≡ length (stretches problem stage)
   stretch_same =
-      ap (λ ns. get_or ns stage 0) ready.of_grammar.phases
-      ∙ get_or-map-range_with_len (λ i. length (filter is_stretch (take i problem.constraints))) 0
-      (last_stage problem + 1) stage stage 0 (omega (arith, within)) (omega arith)
+      ap (λ ns. get_or ns stage 0) ready.of_grammar.phases ∙ get_or-map-range_with_len _ 0 _ stage stage 0
+      (omega (arith, within)) (omega arith)
 
   pub tell_same : (k : Kind) → kind_in shape stage k ≡ kind_of_bits problem stage k
   tell_same k = ap₂ (λ m n. prefix_kind m n k) free_same stretch_same
@@ -118,7 +117,7 @@ module _ (s : Subject) (ready : IsReady s) (stage : ℕ) (within : stage ≤ las
   -- the kind of a node by its number
   pub kind_numbered : (n : ℕ) (d : Node) → n < length (stage_nodes s stage)
       → node_kind s stage n ≡ kind_of_bits problem stage (get_or (stage_nodes s stage) n d).kind
-  kind_numbered n d l = get_or-map _ _ n d (kind_of problem stage []) l
+  kind_numbered n d l = get_or-map _ _ n d _ l
 
 -- ---- kinds that are cut
 
@@ -131,9 +130,8 @@ cut_phases k l m n w h =
       length-take-le m (phases n l)
           (omega (arith, w, length-map-range_with_len (phase_at l) 0 n)),
     ) in
-    sym (fill_by_all (phase_at k) (take m (phases n l)) m closed size
-    (λ i b. get_or-take m (phases n l) i closed b
-    ∙ get_or-map-range_with_len (phase_at l) 0 n i i closed (omega (arith, b, w)) (omega arith) ∙ sym (h i b)))
+    sym (fill_by_all (phase_at k) (take m (phases n l)) m closed size (λ i b. get_or-take m (phases n l) i _ b ∙
+    get_or-map-range_with_len _ 0 n i i closed (omega (arith, b, w)) (omega arith) ∙ sym (h i b)))
 
 kind_parts : (place : ℕ) (opened : List Bool) (ps qs : List Phase) → ps ≡ qs
     → (let k : PrefixKind = record { place = place; opened = opened; phases = ps } in k)
@@ -181,8 +179,7 @@ module _ (s : Subject) (ready : IsReady s) (stage : ℕ) (within : stage ≤ las
   cut_fits kind result count some is fits opened below = record {
     within = omega (arith, fits.within);
     opened = rw opened fits.opened;
-    stretches = rw (is ∙ get_or_default s.shape.now.phases.items (stage - 1) count 0 (omega (arith, fits.within)))
-        at below;
+    stretches = rw (is ∙ get_or_default _ (stage - 1) count 0 (omega (arith, fits.within))) at below;
   }
 
   pub cut_before_told : (kind result : Kind) (count : ℕ) → 1 ≤ stage
@@ -194,8 +191,7 @@ module _ (s : Subject) (ready : IsReady s) (stage : ℕ) (within : stage ≤ las
   cut_before_told kind result count some is place opened same =
       let before : stage - 1 ≤ last_stage (problem_of s) = omega (arith, within) in
       let counted =
-      is ∙ get_or_default s.shape.now.phases.items (stage - 1) count 0 (stage_in s ready _ before) ∙ stretch_same s
-      ready _ before in
+      is ∙ get_or_default _ _ _ 0 (stage_in s ready _ before) ∙ stretch_same s ready _ before in
       let rises : length (stretches (problem_of s) (stage - 1)) ≤ length (stretches (problem_of s) stage) =
       rw (let e : stage - 1 + 1 ≡ stage = omega (arith, some) in e) at
       (count_rises (problem_of s).constraints (stage - 1) (omega (arith, within, some))) in

@@ -137,7 +137,7 @@ module _ (x : Constraint) (c d : List Sym) where
       → all_so NotInside x.right c ≡ all_so NotInside x.right d → AreAlikeFor x c d
   stretch_alike h opened edge present inside =
       let edges = edge_alike _ c d edge in
-      let parts = and_parts (is_implication x.family) (not (has_edge_type x.left)) h in
+      let parts = and_parts _ _ h in
       record {
         cost = subst CostsAlike (sym (stretch_family _ h))
             (λ o phase. stretch_costs _ _ o _ c d (not_same _ _ parts.1) edges);

@@ -66,9 +66,8 @@ module _ (problem : Problem) (stages : List Stage) (stage : ℕ) (k : PrefixKind
 
     parts_more : (column : List Sym) → IsTrue (some_has (take (n + 1) classes) column)
         → IsTrue (some_has (take n classes) column) ⊎ IsTrue (has class column)
-    parts_more column h = ⊎_elim (λ front. inl front) (λ last. inr (last_of _ last)) (or_cases
-        (some_has (take n classes) column) (some_has (class ∷ []) column)
-        (sym (list_any-append (λ c. has c column) (take n classes) (class ∷ [])) ∙ sym (some_more _) ∙ h))
+    parts_more column h = ⊎_elim (λ front. inl front) (λ last. inr (last_of _ last))
+        (or_cases _ _ (sym (list_any-append (λ c. has c column) (take n classes) (class ∷ [])) ∙ sym (some_more _) ∙ h))
       where
         last_of : (b : Bool) → (b || false) ≡ true → b ≡ true
         last_of true e = refl
@@ -125,8 +124,7 @@ module _ (problem : Problem) (stages : List Stage) (stage : ℕ) (k : PrefixKind
               (All-push (IsAlikeTo problem stage) old class so_far.alike alike);
           into = λ column h. ⊎_elim (λ front. let r = so_far.into column front in (front_more _ r.0, r.1))
               (λ last. let held = last_of _ last in
-              (last_more _ held, tight column held)) (or_cases (some_has old column) (some_has (class ∷ []) column)
-              (sym (some column) ∙ h));
+              (last_more _ held, tight column held)) (or_cases _ _ (sym (some column) ∙ h));
           back = λ column h t. some column ∙ ⊎_elim
               (λ front. or_left (some_has old column) (some_has (class ∷ []) column) (so_far.back column front t)) (λ
               last. or_right (some_has old column) (some_has (class ∷ []) column)
@@ -147,14 +145,14 @@ module _ (problem : Problem) (stages : List Stage) (stage : ℕ) (k : PrefixKind
   pub tight_of_all : (classes : List Class) (n : ℕ) (tight : List Class) → ArePieces problem.tiers.width classes
       → length classes ≤ n → TightOf classes n tight → AreTightAmong problem stages stage k classes tight
   tight_of_all classes n tight pieces l a =
-      let whole = take_all n classes l in
+      let whole = take_all n _ l in
       record {
         pieces = pieces_from_once _ _ a.one_width a.filled (λ column. omega (
-              arith,
-              a.few column,
-              ap (λ xs. times_held xs column) whole,
-              once_from_apart classes pieces.apart column,
-            ));
+          arith,
+          a.few column,
+          ap (λ xs. times_held xs column) whole,
+          once_from_apart classes pieces.apart column,
+        ));
         columns = λ column. (
           λ h. let r = a.into column h in (sym (ap (λ xs. some_has xs column) whole) ∙ r.0, r.1),
           λ r. a.back column (ap (λ xs. some_has xs column) whole ∙ r.0) r.1,

@@ -7,7 +7,7 @@ use Rattle.std.proofs.lemmas.Option.{slice_get_within, get_or_from_slice_get}
 use Rattle.tier_core.specs.{declared.constraint.Constraint.Constraint, declared.kind.Kind.Kind, declared.sym.Sym.Sym}
 use Rattle.tier_core.specs.{Kinds.{AreStretchesBelow, PrefixKind, phase_at}, KindShapes.{FitsShape, free_count}}
 use Rattle.tier_core.specs.Sides.{is_stretch}
-use Rattle.violation.specs.{Moves.{next_kind, cost_of, cut_kind}, Prefixes.{kind_of_bits, stretches}}
+use Rattle.violation.specs.{Moves.{next_kind, cost_of, cut_kind}, Prefixes.{kind_of_bits}}
 use Rattle.violation.specs.Problems.{Problem, last_stage}
 use Rattle.answer_text.specs.{declared.stage.Node.Node, declared.stage.Stage.Stage, Right.{nodes_at, kinds_at}}
 use Rattle.answer_text.specs.Certified.{IsTightAt, Lists}
@@ -37,14 +37,13 @@ module _ (problem : Problem) (stages : List Stage) (j : ℕ) where
   lists_at k n p d e same =
       let inside : n < length (nodes_at stages j) = omega (
         arith,
-        slice_get_within (kinds_at problem j (nodes_at stages j)) n k e,
+        slice_get_within _ n k e,
         length-map (nodes_at stages j) (λ (node : Node). kind_of_bits problem j node.kind),
       ) in
       record {
         node = get_or (nodes_at stages j) n d;
         listed = Contains-get_or (nodes_at stages j) n d inside;
-        tells = sym (get_or-map _ _ n d k inside) ∙ get_or_from_slice_get (kinds_at problem j (nodes_at stages j)) n k k
-            e;
+        tells = sym (get_or-map _ _ n d k inside) ∙ get_or_from_slice_get _ n k k e;
         potential = sym same;
       }
 
@@ -55,7 +54,7 @@ module _ (problem : Problem) (stages : List Stage) (j : ℕ) where
       by : (ns : List Node) → nodes_at stages j ≡ ns → Lists problem stages j k p
       by [] is = absurd (omega (
         arith,
-        slice_get_within (kinds_at problem j (nodes_at stages j)) n k e,
+        slice_get_within _ n k e,
         length-map (nodes_at stages j) (λ (node : Node). kind_of_bits problem j node.kind),
         ap (λ (xs : List Node). length xs) is,
       ))
@@ -77,9 +76,9 @@ module _ (s : Subject) (j : ℕ) (ascends : AscendsAt s j) (k : PrefixKind) (col
       after = after;
       leaves = leaves;
       arrives = arrives;
-      falls = eqb-true before (cost + after) h ∙ ap (λ n. n + after) e;
+      falls = eqb-true _ _ h ∙ ap (λ n. n + after) e;
     },
-    λ t. eq-eqb before (cost + after) (let first = one_potential _ j _ ascends _ _ _ leaves t.leaves in
+    λ t. eq-eqb _ _ (let first = one_potential _ j _ ascends _ _ _ leaves t.leaves in
         let last = one_potential _ j _ ascends _ _ _ arrives t.arrives in
         omega (arith, first, last, t.falls, e)),
   )
@@ -114,14 +113,14 @@ module _ (s : Subject) (ready : IsReady s) (stage j : ℕ) (within : stage ≤ l
   cut_fits_at less = record {
     within = stage_in s ready j last;
     opened = rw opened less;
-    stretches = rw (is ∙ get_or_default s.shape.now.phases.items j count 0 (stage_in s ready j last)) at below;
+    stretches = rw (is ∙ get_or_default _ j _ 0 (stage_in s ready j last)) at below;
   }
 
   pub cut_told_at : result.place ≡ kind.place → ((i : ℕ) → i < count → phase_at result i ≡ phase_at kind i)
       → kind_of_bits (problem_of s) j result ≡ cut_kind (problem_of s) j (kind_of_bits (problem_of s) stage kind)
   cut_told_at place same =
       let number =
-      is ∙ get_or_default s.shape.now.phases.items j count 0 (stage_in s ready j last) ∙ stretch_same s ready j last in
+      is ∙ get_or_default _ j _ 0 (stage_in s ready j last) ∙ stretch_same s ready j last in
       cut_told (problem_of s) result kind j stage (stretches_rise (problem_of s).constraints j stage earlier) place
       opened (λ i l. same i (omega (arith, l, number)))
 

@@ -1,4 +1,4 @@
-use Rattle.std.proofs.{Common.{ℕ, ◌+◌, ◌-◌, ◌/◌, ◌<◌, length, sym, ◌∙◌, arith}, lemmas.List.length-map}
+use Rattle.std.proofs.{Common.{◌+◌, ◌-◌, ◌/◌, ◌<◌, length, sym, ◌∙◌, arith}, lemmas.List.length-map}
 use Rattle.tier_core.specs.KindShapes.{kind_in}
 use Rattle.answer_text.specs.declared.stage.Node.{Node}
 use Rattle.cert_check.proofs.Searches.{before_middle, behind_middle, at_middle, not_there}

@@ -1,5 +1,5 @@
-use Rattle.std.proofs.Common.{◌≡◌, ◌+◌, ℕ, cond, true, false, length, ap, sym, ◌∙◌, arith}
-use Rattle.tier_core.specs.{Classes.has, Tiers.{is_input, kind_at}, declared.tier.TierKind.TheVariants.Input}
+use Rattle.std.proofs.Common.{◌≡◌, ℕ, cond, length, ap, sym, ◌∙◌, arith}
+use Rattle.tier_core.specs.{Classes.has, declared.tier.TierKind.TheVariants.Input}
 use Rattle.violation.proofs.InputParts.{reads_more, reads_same, reads_all}
 use Rattle.cert_check.specs.Opens.{inputs_before}
 use Rattle.cert_check.proofs.Opens.{inputs_more, inputs_in, all_inputs}

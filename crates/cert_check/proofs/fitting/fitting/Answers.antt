@@ -31,7 +31,7 @@ read_by : (place last : ℕ) (kinds own : List TierKind) (coming box reading : C
     → (column : List Sym) → IsTrue (has reading column) ↔ (IsTrue (has coming column)
     × ((place < last) × (map (symbol column) (numbers_from is_input 0 own) ≡ wanted)))
 read_by place last kinds own coming box reading column_read wanted same is l wide met told column = (
-  λ h. let parts = and_parts (has coming column) (has box column) (sym (met column) ∙ h) in
+  λ h. let parts = and_parts _ _ (sym (met column) ∙ h) in
       let width = same_width _ _ parts.0 ∙ wide in (
         parts.0,
         (
@@ -41,7 +41,7 @@ read_by place last kinds own coming box reading column_read wanted same is l wid
         ),
       ),
   λ r. let width = same_width _ _ r.0 ∙ wide in
-      met column ∙ and_from (has coming column) (has box column) r.0
+      met column ∙ and_from _ _ r.0
       ((told column width).1 (ap (λ ks. map (symbol column) (numbers_from is_input 0 ks)) same ∙ r.1.1 ∙ sym is)),
 )
 

@@ -1,7 +1,6 @@
-use Rattle.std.proofs.Common.{◌≡◌, ℕ, List, ap, ◌∙◌}
+use Rattle.std.proofs.Common.{List, ap, ◌∙◌}
 use Rattle.tier_core.specs.declared.constraint.Constraint.{Constraint}
-use Rattle.violation.specs.{Candidates.{vec, counts_on}}
-use Rattle.cert_check.specs.{FirstFaults.{asked_by}}
+use Rattle.violation.specs.{Candidates.{vec}}
 use Rattle.cert_check.proofs.{Heads.first_counts, Stops.stops_say}
 use Rattle.grammar_reader.proofs.OverTiers.{all_countable}
 use Rattle.cert_check.proofs.head.check_counts.Goals as goal

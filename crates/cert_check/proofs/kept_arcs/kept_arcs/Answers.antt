@@ -1,6 +1,5 @@
-use Rattle.std.proofs.Common.{◌≡◌, List, arith}
+use Rattle.std.proofs.Common.{◌≡◌, arith}
 use Rattle.violation.specs.{Problems.last_stage}
-use Rattle.cert_check.specs.{declared.kept_piece.KeptPiece.KeptPiece}
 use Rattle.cert_check.specs.{Subjects.{problem_of}}
 use Rattle.cert_check.proofs.{ArcSteps.kept_arcs_are, LastStage.{ascends_at, place_within, targets_listed}}
 use Rattle.cert_check.proofs.StateSubjects.{node_fits}

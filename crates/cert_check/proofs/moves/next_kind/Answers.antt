@@ -1,4 +1,4 @@
-use Rattle.std.proofs.Common.{◌≡◌, ℕ, ◌<◌, take, length, length-take, get_or, ap, ◌∙◌, arith}
+use Rattle.std.proofs.Common.{ℕ, ◌<◌, take, length, length-take, get_or, ap, ◌∙◌, arith}
 use Rattle.std.proofs.{lemmas.List.get_or-take, lemmas.List.Elements.All-from_recursion}
 use Rattle.tier_core.specs.{declared.constraint.Constraint.Constraint, Tiers.{numbers_from}}
 use Rattle.violation.specs.Conditions.{IsOverTiers}
@@ -15,7 +15,7 @@ with_phases-requires-clause-over c k d l =
     let within : k < c.args.stage = omega (arith, l, size) in
     let below : k < length g.constraints.items = omega (arith, l, size, ap length same) in
     let at =
-    get_or-take c.args.stage xs k d within ∙ ap (λ ys. get_or ys k d) same in
+    get_or-take _ xs k d within ∙ ap (λ ys. get_or ys k d) same in
     let Over : ℕ → Constraint → Type 0 = λ w x. IsOverTiers w x in
     rw at (rw c.requires.width
     (All-from_recursion (IsOverTiers (length g.tiers.kinds.items)) g.constraints.items (over_tiers g) k d below))

@@ -29,19 +29,15 @@ returns-then-is_later c =
     let here = piece_at c.requires.kept _ _ c.requires.within c.index-pieces-next.is in
     let first = piece_at c.requires.kept _ _ below c.index-pieces-best.is in
     least_next c.requires.so_far here.within _ here.class _ first.class first.within
-    (λ column h. (c.in-Some.ensures column h).0)
-    (after_is _ _ (ap₂ (λ (p q : KeptPiece). is_gt (column_cmp (first_column p.class) (first_column q.class)))
-    c.index-pieces-best.is (c.index-pieces-next.is ∙ get_or_default c.args.pieces.now c.args.next
-    c.index-pieces-next.result c.index-pieces-next-in-Some.result c.requires.within)
-    ∙ sym c.is_later.ensures ∙ c.if-is_later.true))
+    (λ column h. (c.in-Some.ensures column h).0) (after_is _ _ (ap₂
+    (λ (p q : KeptPiece). is_gt (column_cmp (first_column p.class) (first_column q.class))) c.index-pieces-best.is
+    (c.index-pieces-next.is ∙ get_or_default _ _ _ _ c.requires.within) ∙ sym c.is_later.ensures ∙ c.if-is_later.true))
 
 pub returns : goal.returns
 returns c =
     let below = best_below _ c.requires.so_far c.if-best-pieces.false in
     let here = piece_at c.requires.kept _ _ c.requires.within c.index-pieces-next.is in
     let first = piece_at c.requires.kept _ _ below c.index-pieces-best.is in
-    least_later c.requires.so_far here.within _ here.class _ first.class first.within
-    (not_after_is _ _ (ap₂ (λ (p q : KeptPiece). is_gt (column_cmp (first_column p.class) (first_column q.class)))
-    c.index-pieces-best.is (c.index-pieces-next.is ∙ get_or_default c.args.pieces.now c.args.next
-    c.index-pieces-next.result c.index-pieces-next-in-Some.result c.requires.within)
-    ∙ sym c.is_later.ensures ∙ c.if-is_later.false))
+    least_later c.requires.so_far here.within _ here.class _ first.class first.within (not_after_is _ _ (ap₂
+    (λ (p q : KeptPiece). is_gt (column_cmp (first_column p.class) (first_column q.class))) c.index-pieces-best.is
+    (c.index-pieces-next.is ∙ get_or_default _ _ _ _ c.requires.within) ∙ sym c.is_later.ensures ∙ c.if-is_later.false))

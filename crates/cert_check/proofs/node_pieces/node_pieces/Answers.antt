@@ -1,6 +1,5 @@
-use Rattle.std.proofs.{Common.{◌≡◌, List, length, ap}, lemmas.Result.IfOk-weaker}
+use Rattle.std.proofs.{Common.{List, length, ap}, lemmas.Result.IfOk-weaker}
 use Rattle.tier_core.specs.{declared.tier.TierKind.TierKind}
-use Rattle.cert_check.specs.{Subjects.problem_of}
 use Rattle.cert_check.proofs.PrunedSteps.{pruned_none}
 use Rattle.cert_check.proofs.node_pieces.node_pieces.Goals as goal
 

@@ -1,6 +1,6 @@
-use Rattle.std.proofs.{Common.{◌≡◌, ℕ, ◌+◌, ◌-◌, Bool, cond, sym, ap, ◌∙◌, arith, ⊎_elim}, lemmas.Bool.cases_lt}
+use Rattle.std.proofs.{Common.{◌≡◌, ◌+◌, ◌-◌, cond, sym, ap, ◌∙◌, arith, ⊎_elim}, lemmas.Bool.cases_lt}
 use Rattle.tier_core.specs.Tiers.{has_tier, is_input, kind_at}
-use Rattle.cert_check.specs.Opens.{is_open_before, is_open_by, inputs_before}
+use Rattle.cert_check.specs.Opens.{is_open_before, is_open_by}
 use Rattle.cert_check.proofs.Opens.{inputs_more, inputs_in, all_inputs}
 use Rattle.cert_check.proofs.open.open_tiers.Goals as goal
 

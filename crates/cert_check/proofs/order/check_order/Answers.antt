@@ -1,7 +1,6 @@
 use Rattle.std.proofs.Common.{◌≡◌, List, length, arith, sym, ap, ◌∙◌, true≢false, ⊎_elim}
 use Rattle.std.proofs.lemmas.Bool.{cases_lt}
 use Rattle.answer_text.specs.declared.stage.Node.{Node}
-use Rattle.cert_check.specs.{Subjects.{stage_nodes}}
 use Rattle.cert_check.proofs.{Orders.first_wrong, Subjects.nodes_read}
 use Rattle.cert_check.proofs.order.check_order.Goals as goal
 

@@ -1,6 +1,5 @@
-use Rattle.std.proofs.Common.{◌≡◌, ℕ, ◌≤◌, arith, sym, ap₂, ◌∙◌}
+use Rattle.std.proofs.Common.{◌≤◌, arith, sym, ap₂, ◌∙◌}
 use Rattle.tier_core.specs.Kinds.{kind_order}
-use Rattle.cert_check.specs.Subjects.{node_kind}
 use Rattle.cert_check.proofs.{Searches.less_is, Subjects.number_read}
 use Rattle.cert_check.proofs.order.comes_after.Goals as goal
 

@@ -1,8 +1,8 @@
-use Rattle.std.proofs.Common.{◌≡◌, ℕ, ◌-◌, ◌<◌, List, get_or, length, arith, sym, ap, subst, Contains, ◌≤◌}
-use Rattle.violation.specs.{Moves.cut_kind, Prefixes.kind_of_bits}
+use Rattle.std.proofs.Common.{◌-◌, ◌<◌, List, length, arith, sym, ap, subst, Contains, ◌≤◌}
+use Rattle.violation.specs.{Moves.cut_kind}
 use Rattle.answer_text.specs.{declared.stage.Node.Node}
 use Rattle.tier_core.specs.Kinds.{PrefixKind}
-use Rattle.cert_check.specs.Subjects.{node_kind, stage_nodes, problem_of, stage_kinds}
+use Rattle.cert_check.specs.Subjects.{stage_nodes, problem_of, stage_kinds}
 use Rattle.cert_check.proofs.{Orders.in_order_by, Subjects.number_bits}
 use Rattle.cert_check.proofs.order.is_in_order.Goals as goal
 

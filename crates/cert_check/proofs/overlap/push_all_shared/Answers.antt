@@ -9,7 +9,7 @@ pub loop-place-preserved : goal.loop-place-preserved
 loop-place-preserved c =
     let there = one_there _ _ c.loop-place-test.true in
     twice_more _ _ _ _ _ _ c.loop-place-test.true
-    (sym (get_or_from_slice_get c.args.arcs.now c.loop-place.place there.0 there.0 there.1)) c.loop-place.invariant
+    (sym (get_or_from_slice_get c.args.arcs.now c.loop-place.place _ there.0 there.1)) c.loop-place.invariant
     (c.in_ok-push_shared.ensures there.0 there.1)
 
 pub returns : goal.returns

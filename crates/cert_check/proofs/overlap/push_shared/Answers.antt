@@ -17,7 +17,7 @@ loop-later-preserved c =
       adds = λ arc e. shared_more _ _ _ _ _ _ _ _ c.loop-later.invariant.from c.loop-later-test.true
           c.index-arcs-later.is (c.loop-later.invariant.adds arc e) (adds_same _ _ _ _ (λ column. c.meet.ensures.columns
           column ∙ ap₂ (λ (x y : ArcLine). has x.class column && has y.class column)
-          (get_or_from_slice_get c.args.arcs.now c.args.place arc c.index-arcs-place.result e)
+          (get_or_from_slice_get c.args.arcs.now c.args.place _ c.index-arcs-place.result e)
           (sym c.index-arcs-later.is)) c.in_ok-push_filled.ensures);
     }
 

@@ -1,4 +1,4 @@
-use Rattle.std.proofs.Common.{◌≡◌, ◌++◌, ◌∷◌, [], List, sym, ap, ◌∙◌}
+use Rattle.std.proofs.Common.{◌++◌, ◌∷◌, [], List, sym, ap, ◌∙◌}
 use Rattle.tier_core.specs.declared.class.Class.{Class}
 use Rattle.cert_check.specs.{declared.boxes.Asked.TheVariants.{Absent, Open, NotInside, NoEdge}}
 use Rattle.cert_check.proofs.TestLemmas.{all_so, stretch_alike, adds_four}

@@ -1,9 +1,7 @@
-use Rattle.std.proofs.{Common.{◌≡◌, List, length, ap}, lemmas.List.Elements.All-from_recursion}
+use Rattle.std.proofs.{Common.{List, length, ap}, lemmas.List.Elements.All-from_recursion}
 use Rattle.std.proofs.lemmas.Result.{IfOk-weaker}
-use Rattle.tier_core.specs.{declared.constraint.Constraint.Constraint}
 use Rattle.tier_core.specs.declared.tier.TierKind.{TierKind}
 use Rattle.violation.specs.Conditions.{IsOverTiers}
-use Rattle.cert_check.specs.{Subjects.problem_of}
 use Rattle.grammar_reader.proofs.OverTiers.{over_tiers}
 use Rattle.cert_check.proofs.PrunedSteps.{parted_next}
 use Rattle.cert_check.proofs.pruned.parted_by_next.Goals as goal

@@ -12,5 +12,5 @@ check_nodes-requires-clause-ascend c j l = ⊎_elim
 
 pub returns-clause-ascends : goal.returns-clause-ascends
 returns-clause-ascends c =
-    on_ok_weaker c.check_start_potential.result
-    (λ right. ascends_by c.args.subject.now _ c.in_ok-check_order.ensures.ok) c.check_start_potential.ensures.ok
+    on_ok_weaker _ (λ right. ascends_by c.args.subject.now _ c.in_ok-check_order.ensures.ok)
+    c.check_start_potential.ensures.ok

@@ -9,8 +9,8 @@ use Rattle.cert_check.proofs.state_check.check_targets.Goals as goal
 
 numbered : (xs ys : List ArcLine) → xs ≡ ys → (n : ℕ) (arc : ArcLine) → n < length xs → arc ≡ get_or xs n arc
     → slice_get ys n ≡ Some arc
-numbered xs ys e n arc l is = ap (λ (zs : List ArcLine). slice_get zs n) (sym e) ∙ slice_get-get_or xs n arc l
-    ∙ ap (λ (x : ArcLine). Some x) (sym is)
+numbered xs ys e n arc l is = ap (λ (zs : List ArcLine). slice_get zs n) (sym e) ∙ slice_get-get_or xs n _ l ∙ ap
+    (λ (x : ArcLine). Some x) (sym is)
 
 pub returns-then-not-has_state-clause-err : goal.returns-then-not-has_state-clause-err
 returns-then-not-has_state-clause-err c =
@@ -33,11 +33,10 @@ loop-arc-preserved c n arc l e = ⊎_elim
 pub returns-clause-ok : goal.returns-clause-ok
 returns-clause-ok c =
     let s = c.args.subject.now in
-    let state = c.args.state.now in
     targets_right (problem_of s) _ (states_ascend s c.requires.staged) _ c.requires.at.listed
     (λ n arc e. c.loop-arc.invariant n arc (omega (
       arith,
-      slice_get_within state.arcs.items n arc e,
+      slice_get_within _ n _ e,
       c.loop-arc-test.false,
       ap (λ (xs : List ArcLine). length xs) c.deref-arc-items.ensures.value,
     )) e)

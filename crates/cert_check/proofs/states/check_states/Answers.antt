@@ -45,7 +45,7 @@ returns-clause-ok c =
     states_right _ _ (states_ascend s c.requires) c.requires.right start
     (λ n line e. c.loop-state.invariant n line (omega (
       arith,
-      slice_get_within s.answer.now.automaton.states.items n line e,
+      slice_get_within _ n _ e,
       c.loop-state-test.false,
       ap (λ (xs : List StateLine). length xs) c.as_slice-states.ensures.value,
     )) e)

@@ -1,5 +1,5 @@
-use Rattle.std.proofs.Common.{◌≡◌, sym, arith}
-use Rattle.violation.specs.{Moves.cut_kind, Prefixes.kind_of_bits}
+use Rattle.std.proofs.Common.{sym, arith}
+use Rattle.violation.specs.{Prefixes.kind_of_bits}
 use Rattle.cert_check.specs.{Subjects.problem_of}
 use Rattle.cert_check.proofs.{TightLists.tight_among_none, TightSteps.{cut_fits_at, cut_told_at}}
 use Rattle.cert_check.proofs.tight.tight_among.Goals as goal

@@ -1,4 +1,3 @@
-use Rattle.std.proofs.Common.{ℕ}
 use Rattle.cert_check.specs.{Subjects.problem_of}
 use Rattle.cert_check.proofs.TightLists.{tight_of_none, tight_of_step, tight_of_all}
 use Rattle.cert_check.proofs.tight.tight_from.Goals as goal

@@ -20,4 +20,4 @@ loop-test-preserved c =
     c.inside.ensures.columns c.loop-test.invariant c.in_ok-parts.ensures
 
 pub returns : goal.returns
-returns c = rw (take_all c.loop-test.test-index c.args.tests.now c.loop-test-test.false) at c.loop-test.invariant
+returns c = rw (take_all _ _ c.loop-test-test.false) at c.loop-test.invariant

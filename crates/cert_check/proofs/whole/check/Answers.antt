@@ -1,7 +1,6 @@
 use Rattle.std.proofs.Common.{refl}
 use Rattle.violation.proofs.SplitLemmas.{tiers_split}
 use Rattle.check_laws.proofs.{RightStates.certified_from_right, Soundness.sound_from_certified}
-use Rattle.cert_check.specs.FirstFaults.{IsFirstFault, asked_by}
 use Rattle.cert_check.proofs.{Certifying.certified_if_faultless, CheckSteps.states_in_order}
 use Rattle.cert_check.proofs.{Faultless.faultless_if_certified, Stops.stop_said}
 use Rattle.grammar_reader.proofs.OverTiers.{over_tiers}

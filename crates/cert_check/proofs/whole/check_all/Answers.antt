@@ -13,6 +13,6 @@ check_states-requires c = record {
 
 pub returns-clause-ok : goal.returns-clause-ok
 returns-clause-ok c =
-    on_ok_weaker c.check_states.result
+    on_ok_weaker _
     (faultless_whole _ _ (right_before _ _ c.in_ok-check_head.ensures.ok c.in_ok-check_stages.ensures.ok))
     c.check_states.ensures.ok

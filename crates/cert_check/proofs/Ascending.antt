@@ -1,6 +1,6 @@
 -- The kinds of a stage in which no node is wrong ascend.
 use Rattle.std.proofs.Common.{◌≡◌, ℕ, zero, suc, ◌+◌, ◌-◌, ◌<◌, ◌≤◌, List, [], ◌∷◌, length, get_or, slice_get, Some}
-use Rattle.std.proofs.{Common.{None, Option, refl, sym, ap, ◌∙◌, subst, arith}, lemmas.List.length-map}
+use Rattle.std.proofs.{Common.{None, Option, refl, ap, ◌∙◌, arith}, lemmas.List.length-map}
 use Rattle.std.proofs.lemmas.Map.Keys.{sorted_from_all_adjacent}
 use Rattle.std.proofs.lemmas.Option.{slice_get-get_or, get_or_from_slice_get}
 use Rattle.std.specs.{List.Sorted.IsStrictlySortedBy, declared.cmp.Ordering.TheVariants.Less}
@@ -33,23 +33,20 @@ module _ (problem : Problem) (answer : Answer) (r : ℕ) (within : r < length an
 
   -- there is a node with each number
   pub node_at : (n : ℕ) → n < length kinds → (node : Node) × HasNode answer r n node
-  node_at n l = let found = node_of (slice_get nodes n) nodes n (omega (arith, l, length-map nodes told)) refl in
+  node_at n l = let found = node_of _ _ n (omega (arith, l, length-map nodes told)) refl in
       (found.0, record { within = within; numbered = found.1 })
 
   -- and the kind with its number is the one that it tells
   pub kind_at : (n : ℕ) (node : Node) → HasNode answer r n node → get_or kinds n (kind_of problem r []) ≡ told node
-  kind_at n node is = get_or_from_slice_get kinds n (told node) (kind_of problem r [])
-      (node_kind problem answer r n node is)
+  kind_at n node is = get_or_from_slice_get _ n _ _ (node_kind problem _ r n _ is)
 
   after : ((n : ℕ) → HasWrongNode problem answer r n → ⊥) → (n : ℕ) (node : Node) → HasNode answer r n node
       → (l : PrefixKind) → 1 ≤ n → slice_get kinds (n - 1) ≡ Some l → kind_order l (told node) ≡ Less
-  after right n node is l some e = so_unless (is_less (kind_order l (told node)))
+  after right n node is l some e = so_unless (is_less _)
       (λ no. right n (record { node = node; is = is; wrong = λ o. no (o.after l some e) }))
 
   pub ascends_unless : ((n : ℕ) → HasWrongNode problem answer r n → ⊥) → IsStrictlySortedBy kind_order kinds
   ascends_unless right = sorted_from_all_adjacent kind_order_total kinds (kind_of problem r []) (λ k l.
-      let node = node_at (k + 1) l in
-      subst (λ x. kind_order (get_or kinds k (kind_of problem r [])) x ≡ Less) (sym (kind_at (k + 1) node.0 node.1))
-      (after right (k + 1) node.0 node.1 (get_or kinds k (kind_of problem r [])) (omega arith)
-      (ap (slice_get kinds) (let e : k + 1 - 1 ≡ k = omega arith in e)
-      ∙ slice_get-get_or kinds k (kind_of problem r []) (omega (arith, l)))))
+      let node = node_at _ l in
+      rw ((kind_at (k + 1) node.0 node.1)) (after right _ _ node.1 _ (omega arith)
+      (ap (slice_get kinds) (let e : k + 1 - 1 ≡ k = omega arith in e) ∙ slice_get-get_or _ k _ (omega (arith, l)))))

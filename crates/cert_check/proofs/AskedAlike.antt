@@ -32,7 +32,7 @@ pub by_constraints : (P : Problem → Type 0)
     → ((problem : Problem) (cs ds : List Constraint) → requirements_seen cs ≡ requirements_seen ds
     → P (with_constraints problem cs) → P (with_constraints problem ds))
     → (p q : Problem) → AreAskedAlike p q → P p → P q
-by_constraints P step = by_alike (λ p q. P p → P q) step
+by_constraints P step = by_alike _ step
 
 -- ---- lists of constraints
 
@@ -45,7 +45,7 @@ is_seen_stretch n = is_implication n.family && not (has_edge_type n.left)
 pub seen_filter : (cs : List Constraint)
     → requirements_seen (filter is_stretch cs) ≡ filter is_seen_stretch (requirements_seen cs)
 seen_filter [] = refl
-seen_filter (c ∷ cs) = go (is_stretch c) (seen_filter cs)
+seen_filter (c ∷ cs) = go _ (seen_filter cs)
   where
     go : (b : Bool) → requirements_seen (filter is_stretch cs) ≡ filter is_seen_stretch (requirements_seen cs)
         → requirements_seen (cond b (c ∷ filter is_stretch cs) (filter is_stretch cs))
@@ -86,7 +86,7 @@ next_alike column (c ∷ cs) (d ∷ ds) e [] = refl
 next_alike column (c ∷ cs) (d ∷ ds) e (p ∷ ps) =
     let head : requirement_seen c ≡ requirement_seen d = cc in
     let tail : SeenAlike cs ds = cc in
-    ap₂ (λ (n : Requirement) qs. next_phase n.left n.right p column ∷ qs) head (next_alike column cs ds tail ps)
+    ap₂ (λ (n : Requirement) qs. next_phase n.left n.right p column ∷ qs) head (next_alike _ cs ds tail ps)
 
 costs_alike : (column : List Sym) (opened : ℕ → Bool) (cs ds : List Constraint) → SeenAlike cs ds
     → (phases : List Phase) → costs_each cs opened phases column ≡ costs_each ds opened phases column
@@ -98,9 +98,8 @@ costs_alike column opened (c ∷ cs) (d ∷ ds) e phases =
     let tail : SeenAlike cs ds = cc in
     let left : Bool → List Phase = λ stretch. if stretch then drop 1 phases else phases in
     ap₂ (λ (n : Requirement) (ns : List ℕ).
-    (if costs n.family n.left n.right opened (first_phase phases) column then 1 else 0) ∷ ns) head
-    (costs_alike column opened cs ds tail (left (is_stretch c))
-    ∙ ap (λ (n : Requirement). costs_each ds opened (left (is_seen_stretch n)) column) head)
+    (if costs n.family n.left n.right opened (first_phase phases) column then 1 else 0) ∷ ns) head (costs_alike _ _ cs
+    ds tail _ ∙ ap (λ (n : Requirement). costs_each ds opened (left (is_seen_stretch n)) column) head)
 
 closed_alike : (is_left : Constraint → Bool) (of : Requirement → Bool)
     → ((c : Constraint) → is_left c ≡ of (requirement_seen c)) → (cs ds : List Constraint) → SeenAlike cs ds
@@ -113,7 +112,7 @@ closed_alike is_left of tells (c ∷ cs) (d ∷ ds) e (p ∷ ps) h =
     let head : requirement_seen c ≡ requirement_seen d = cc in
     let tail : SeenAlike cs ds = cc in (
       h.0 ∙ ap not (tells c ∙ ap of head ∙ sym (tells d)),
-      closed_alike is_left of tells cs ds tail ps h.1,
+      closed_alike _ of tells cs ds tail ps h.1,
     )
 
 -- ---- problems
@@ -129,7 +128,7 @@ module _ (problem : Problem) (cs ds : List Constraint) (alike : requirements_see
   same_vec T = seen_vec T cs ∙ ap (map (λ n. viol n.family n.left n.right T)) alike ∙ sym (seen_vec T ds)
 
   pub same_stretch_count : (r : ℕ) → length (stretches here r) ≡ length (stretches there r)
-  same_stretch_count r = same_count (stretches here r) (stretches there r) (stretches_seen r cs ds alike)
+  same_stretch_count r = same_count _ _ (stretches_seen r cs ds alike)
 
   pub same_kind : (r : ℕ) (p : List (List Sym)) → kind_of here r p ≡ kind_of there r p
   same_kind r p =
@@ -138,9 +137,8 @@ module _ (problem : Problem) (cs ds : List Constraint) (alike : requirements_see
         opened = map (λ t. is_open (tier_word p t)) problem.tiers.free;
         phases = ps;
       } in
-      ap kind (seen_phases p (stretches here r)
-      ∙ ap (map (λ n. phase n.left n.right p)) (stretches_seen r cs ds alike)
-      ∙ sym (seen_phases p (stretches there r)))
+      ap kind
+      (seen_phases p _ ∙ ap (map (λ n. phase n.left n.right p)) (stretches_seen r cs ds alike) ∙ sym (seen_phases p _))
 
   pub same_cut : (r : ℕ) (k : PrefixKind) → cut_kind here r k ≡ cut_kind there r k
   same_cut r k =
@@ -154,16 +152,14 @@ module _ (problem : Problem) (cs ds : List Constraint) (alike : requirements_see
         opened = map (λ t. opens (symbol column t)) problem.tiers.free;
         phases = ps;
       } in
-      ap kind (next_alike column (stretches here r) (stretches there r) (stretches_seen r cs ds alike) k.phases)
+      ap kind (next_alike _ _ _ (stretches_seen r cs ds alike) _)
 
   pub same_cost : (r : ℕ) (k : PrefixKind) (column : List Sym) → cost_of here r k column ≡ cost_of there r k column
-  same_cost r k column =
-      ap (λ ns. slice_index_or ns (r - 1) 0)
-      (costs_alike column (is_tier_open problem k) (take r cs) (take r ds) (first_ones r cs ds alike) k.phases)
+  same_cost r k column = ap (λ ns. slice_index_or ns (r - 1) 0) (costs_alike _ _ _ _ (first_ones r cs ds alike) _)
 
   pub same_closed : (r : ℕ) (k : PrefixKind) (phases : List Phase)
       → AreClosedOr (is_left_open here k) (stretches here r) phases
       → AreClosedOr (is_left_open there k) (stretches there r) phases
   same_closed r k =
-      closed_alike (is_left_open problem k) (λ n. list_all (λ e. is_tier_open problem k e.tier) n.left) (λ c. refl)
-      (stretches here r) (stretches there r) (stretches_seen r cs ds alike)
+      closed_alike _ (λ n. list_all (λ e. is_tier_open problem k e.tier) n.left) (λ c. refl) _ _
+      (stretches_seen r cs ds alike)

@@ -1,14 +1,13 @@
 -- The whole check: what is known after the stages, and when nothing is wrong.
-use Rattle.std.proofs.Common.{◌≡◌, ℕ, zero, suc, ◌+◌, ◌-◌, ◌<◌, ◌≤◌, ◌^◌, List, length, get_or, sym, ap, ap₂, ◌∙◌}
+use Rattle.std.proofs.Common.{◌≡◌, ℕ, zero, suc, ◌+◌, ◌-◌, ◌<◌, ◌≤◌, List, length, get_or, sym, ap, ap₂, ◌∙◌}
 use Rattle.std.proofs.{Common.{subst, arith, ⊎_elim, inl, inr}, lemmas.Bool.cases_lt, lemmas.List.length-map}
-use Rattle.std.specs.List.{AllByRecursion}
-use Rattle.tier_core.specs.{declared.shape.Shape.Shape, declared.sym.Sym.Sym, Kinds.AreStretchesBelow}
+use Rattle.tier_core.specs.{declared.shape.Shape.Shape, declared.sym.Sym.Sym}
 use Rattle.tier_core.specs.{KindShapes.FitsShape, Shapes.masked_count, declared.constraint.Constraint.Constraint}
 use Rattle.violation.specs.{Problems.{Problem, last_stage}, Counts.violations_of}
 use Rattle.grammar_reader.specs.{declared.grammar.Grammar.Grammar, ShapeOf.IsShapeOf}
 use Rattle.answer_text.specs.{declared.answer.Answer.Answer, declared.stage.Node.Node}
-use Rattle.answer_text.specs.Readable.{AreReadableStates, IsReadable, IsReadableStage, last_nodes}
-use Rattle.answer_text.specs.{Certified.AreStatesInOrder, Right.nodes_at}
+use Rattle.answer_text.specs.Readable.{IsReadable, IsReadableStage}
+use Rattle.answer_text.specs.{Certified.AreStatesInOrder}
 use Rattle.cert_check.specs.{FirstFaults.{IsFaultless, IsReadableFor}, Nodes.IsFaultlessStage}
 use Rattle.cert_check.specs.Parts.{InAnswer, InNode, InStage, IsWrongMove, HasRightHead}
 use Rattle.cert_check.specs.{declared.subject.Subject.Subject, Subjects.{IsReady, problem_of}}
@@ -28,37 +27,34 @@ module _ (grammar : Grammar) (one two : Shape) (a : IsShapeOf grammar one) (b : 
 
   fits_both : (stage : ℕ) (node : Node) → FitsShape one stage node.kind → FitsShape two stage node.kind
   fits_both stage node f = record {
-    within = subst (λ (ns : List ℕ). stage < length ns) same_phases f.within;
-    opened = subst (λ n. node.kind.opened < 2 ^ n) (ap₂ (λ m n. m - n) same_width same_inputs) f.opened;
-    stretches = subst (λ (ns : List ℕ). AreStretchesBelow (get_or ns stage 0) node.kind) same_phases f.stretches;
+    within = rw same_phases at f.within;
+    opened = rw (ap₂ (λ m n. m - n) same_width same_inputs) at f.opened;
+    stretches = rw same_phases at f.stretches;
   }
 
   stage_both : (stage : ℕ) (nodes : List Node) → IsReadableStage one stage nodes → IsReadableStage two stage nodes
   stage_both stage nodes r = record {
     few = r.few;
-    fits = λ k d l. fits_both stage (get_or nodes k d) (r.fits k d l);
+    fits = λ k d l. fits_both _ (get_or nodes k d) (r.fits k d l);
     potentials = r.potentials;
   }
 
   pub readable_both : (answer : Answer) → IsReadable one answer → IsReadable two answer
   readable_both answer r = record {
-    form_width = subst (λ n. AllByRecursion (λ (column : List Sym). length column
-        ≡ n) answer.form) same_inputs r.form_width;
-    example_width = subst (λ n. AllByRecursion (λ (column : List Sym). length column ≡ n) answer.example) same_width
-        r.example_width;
+    form_width = rw same_inputs at r.form_width;
+    example_width = rw same_width at r.example_width;
     example_size = r.example_size;
     few_counts = r.few_counts;
     counts = r.counts;
-    few_stages = subst (λ (ns : List ℕ). length answer.stages.items ≤ length ns) same_phases r.few_stages;
-    stages = λ stage l. stage_both stage (nodes_at answer.stages.items stage) (r.stages stage l);
-    states = subst (λ n. AreReadableStates n (length (last_nodes answer.stages.items)) answer.automaton.states.items)
-        same_width r.states;
+    few_stages = rw same_phases at r.few_stages;
+    stages = λ stage l. stage_both _ _ (r.stages stage l);
+    states = rw same_width at r.states;
   }
 
 -- an answer that is within the limits for a grammar is readable for its shape
 pub readable_for : (grammar : Grammar) (answer : Answer) (shape : Shape) → IsReadableFor grammar answer
     → IsShapeOf grammar shape → IsReadable shape answer
-readable_for grammar answer shape r is = readable_both grammar r.shape shape r.of_grammar is answer r.readable
+readable_for grammar answer shape r is = readable_both _ _ _ r.of_grammar is _ r.readable
 
 -- ---- nothing is wrong
 
@@ -67,7 +63,7 @@ module _ (problem : Problem) (answer : Answer) where
   in_node : (stage node part : ℕ) (rest : List ℕ) → InNode problem answer stage node part rest
       → stage < length answer.stages.items
   in_node stage node zero rest w = w.1.0.is.within
-  in_node stage node (suc zero) rest w = by w.0 w.1.0
+  in_node stage node (suc zero) rest w = by _ w.1.0
     where
       by : (column : List Sym) → IsWrongMove problem answer stage node column → stage < length answer.stages.items
       by column (inl v) = v.1.is.within
@@ -78,7 +74,7 @@ module _ (problem : Problem) (answer : Answer) where
       → stage < length answer.stages.items
   in_stage_within stage zero rest w = w.1.0.is.within
   in_stage_within stage (suc zero) rest w = w.0.within
-  in_stage_within stage (suc (suc zero)) rest w = in_node stage w.0 w.1.0 w.1.1.0 w.1.1.1.0
+  in_stage_within stage (suc (suc zero)) rest w = in_node _ _ _ _ w.1.1.1.0
   in_stage_within stage (suc (suc (suc zero))) rest w = w.1.1.0.is.within
   in_stage_within stage (suc (suc (suc (suc part)))) rest w = absurd w
 
@@ -87,14 +83,14 @@ module _ (problem : Problem) (answer : Answer) where
       → ((r : ℕ) → r ≤ last_stage problem → IsFaultlessStage problem answer r)
       → (rest : List ℕ) → InAnswer problem answer 4 rest → ⊥
   stages_part size right rest w =
-      let inside = in_stage_within w.0 w.1.0 w.1.1.0 w.1.1.1.0 in
+      let inside = in_stage_within _ _ _ w.1.1.1.0 in
       right w.0 (omega (arith, size, inside)) w.1.0 w.1.1.0 w.1.1.1.0
 
   -- nothing is wrong where nothing is before the automaton, and nothing in it
   pub faultless_whole : ((part : ℕ) → part < 5 → (rest : List ℕ) → InAnswer problem answer part rest → ⊥)
       → ((part : ℕ) → 5 ≤ part → (rest : List ℕ) → InAnswer problem answer part rest → ⊥) → IsFaultless problem answer
   faultless_whole before from fault place h =
-      let p = parted problem answer fault place h in
+      let p = parted _ _ _ _ h in
       ⊎_elim (λ below. before p.0 below p.1.0 p.1.1.0) (λ above. from p.0 above p.1.0 p.1.1.0) (cases_lt p.0 5)
 
 -- what is known of an answer of which the head is right
@@ -102,7 +98,7 @@ pub ready_by : (s : Subject) → IsReadableFor s.grammar.now s.answer.now → Is
     → HasRightHead (problem_of s) s.answer.now → IsReady s
 ready_by s readable is head = record {
   of_grammar = is;
-  readable = readable_for s.grammar.now s.answer.now s.shape.now readable is;
+  readable = readable_for _ _ _ readable is;
   form = record { form = head.form; short = head.short };
   numbers = record {
     stages = head.stage_count;
@@ -115,17 +111,15 @@ ready_by s readable is head = record {
 pub right_before : (problem : Problem) (answer : Answer) → HasRightHead problem answer
     → ((r : ℕ) → r ≤ last_stage problem → IsFaultlessStage problem answer r)
     → (part : ℕ) → part < 5 → (rest : List ℕ) → InAnswer problem answer part rest → ⊥
-right_before problem answer head stages part l = ⊎_elim
-    (λ below. head_parts problem answer (form_part problem answer (record { form = head.form; short = head.short }))
-    (numbers_part problem answer (record {
+right_before problem answer head stages part l = ⊎_elim (λ below. head_parts problem answer
+    (form_part problem answer (record { form = head.form; short = head.short })) (numbers_part _ _ (record {
       stages = head.stage_count;
       counts = ap (λ (ns : List ℕ). length ns) head.counts
           ∙ length-map problem.constraints (λ (x : Constraint). violations_of x answer.example);
-    })) (example_part problem answer head.example) (counts_part problem answer head.counts) part below)
+    })) (example_part _ answer head.example) (counts_part _ _ head.counts) _ below)
     (λ above. let is : 4 ≡ part = omega arith in
     subst (λ m. (rest : List ℕ) → InAnswer problem answer m rest → ⊥) is
-    (stages_part problem answer head.stage_count stages))
-    (cases_lt part 4)
+    (stages_part _ _ head.stage_count stages)) (cases_lt part 4)
 
 -- the states of an answer that is within the limits are in order
 pub states_in_order : (grammar : Grammar) (answer : Answer) → IsReadableFor grammar answer

@@ -43,7 +43,7 @@ pub after_is : (a b : List Sym) → is_gt (column_cmp a b) ≡ true → IsBefore
 after_is [] [] h = absurd (false≢true h)
 after_is [] (y ∷ b) h = absurd (false≢true h)
 after_is (x ∷ a) [] h = tt
-after_is (x ∷ a) (y ∷ b) h = then_greater x y a b (column_cmp a b) (after_is a b) (nat_cmp (rank x) (rank y)) refl h
+after_is (x ∷ a) (y ∷ b) h = then_greater x y a b _ (after_is a b) _ refl h
 
 then_not : (x y : Sym) (a b : List Sym) (o : Ordering)
     → (is_gt o ≡ false → IsBefore (column_place b) (column_place a) → ⊥) → (r : Ordering)
@@ -61,5 +61,4 @@ pub not_after_is : (a b : List Sym) → is_gt (column_cmp a b) ≡ false
 not_after_is [] [] h p = p
 not_after_is [] (y ∷ b) h p = p
 not_after_is (x ∷ a) [] h p = absurd (true≢false h)
-not_after_is (x ∷ a) (y ∷ b) h p = then_not x y a b (column_cmp a b) (not_after_is a b)
-    (nat_cmp (rank x) (rank y)) refl h p
+not_after_is (x ∷ a) (y ∷ b) h p = then_not x y a b _ (not_after_is a b) _ refl h p

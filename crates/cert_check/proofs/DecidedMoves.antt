@@ -25,13 +25,8 @@ module _ (problem : Problem) where
   -- a column fits a kind or not
   pub is_fitting : (k : PrefixKind) (column : List Sym) → Decided (FitsKind problem k column)
   is_fitting k column =
-      own (cases_eq (length column) problem.tiers.width)
-      (for_all_below (λ t. fits (is_tier_open problem k t) (symbol column t) ≡ true) problem.tiers.width
-      (λ t l. is_true (fits (is_tier_open problem k t) (symbol column t))))
-      (is_true (has_edge column))
-      (from_either (is_false (has_edge (input_of problem.tiers column)))
-      (from_both (is_below k.place (last_place problem))
-      (is_list is_symbol (input_of problem.tiers column) (column_at problem.form k.place))))
+      own (cases_eq (length column) problem.tiers.width) (for_all_below _ _ (λ t l. is_true _)) (is_true _)
+      (from_either (is_false _) (from_both (is_below _ _) (is_list is_symbol _ _)))
     where
       own : Decided (length column ≡ problem.tiers.width) → Decided (AreFitting k column)
           → Decided (has_edge column ≡ true) → Decided (HasInput k column) → Decided (FitsKind problem k column)
@@ -45,37 +40,33 @@ module _ (problem : Problem) where
     -- a stage lists a kind or not
     pub is_listed : (r : ℕ) (k : PrefixKind)
         → ((p : ℕ) × Lists problem stages r k p) ⊎ IsUnlisted problem stages r k
-    is_listed r k = own (is_member is_kind (kinds_at problem r (nodes_at stages r)) k)
+    is_listed r k = own (is_member is_kind _ k)
       where
         own : Decided (Contains (kinds_at problem r (nodes_at stages r)) k)
             → ((p : ℕ) × Lists problem stages r k p) ⊎ IsUnlisted problem stages r k
-        own (inl h) = inl (kind_listed problem r stages k h)
-        own (inr n) = inr (λ p h. n (lists_kind problem r stages k p h))
+        own (inl h) = inl (kind_listed _ r _ k h)
+        own (inr n) = inr (λ p h. n (lists_kind _ r _ k p h))
 
     -- a column is tight at a stage whose kinds ascend, or not
     pub is_tight : (j : ℕ) → IsStrictlySortedBy kind_order (kinds_at problem j (nodes_at stages j))
         → (k : PrefixKind) (column : List Sym) → Decided (IsTightAt problem stages j k column)
-    is_tight j ascending k column = own (is_listed j (cut_kind problem j k)) (is_listed j (next_kind problem j
-        (cut_kind problem j k) column))
+    is_tight j ascending k column = own (is_listed j _) (is_listed j _)
       where
         falls : (p q : ℕ) → Lists problem stages j (cut_kind problem j k) p
             → Lists problem stages j (next_kind problem j (cut_kind problem j k) column) q
             → Decided (p ≡ cost_of problem j (cut_kind problem j k) column + q)
             → Decided (IsTightAt problem stages j k column)
         falls p q a b (inl e) = inl (record { before = p; after = q; leaves = a; arrives = b; falls = e })
-        falls p q a b (inr n) = inr (λ t. n
-            (one_potential problem j stages ascending (cut_kind problem j k) p t.before a t.leaves ∙ t.falls
-            ∙ ap (λ x. cost_of problem j (cut_kind problem j k) column + x)
-            (one_potential problem j stages ascending (next_kind problem j
-            (cut_kind problem j k) column) t.after q t.arrives b)))
+        falls p q a b (inr n) = inr (λ t. n (one_potential _ j _ ascending _ p _ a t.leaves ∙ t.falls ∙ ap
+            (λ x. cost_of problem j (cut_kind problem j k) column + x)
+            (one_potential _ j _ ascending _ _ q t.arrives b)))
 
         own : ((p : ℕ) × Lists problem stages j (cut_kind problem j k) p)
             ⊎ IsUnlisted problem stages j (cut_kind problem j k)
             → ((p : ℕ) × Lists problem stages j (next_kind problem j (cut_kind problem j k) column) p)
             ⊎ IsUnlisted problem stages j (next_kind problem j (cut_kind problem j k) column)
             → Decided (IsTightAt problem stages j k column)
-        own (inl a) (inl b) = falls a.0 b.0 a.1 b.1
-            (cases_eq a.0 (cost_of problem j (cut_kind problem j k) column + b.0))
+        own (inl a) (inl b) = falls _ _ a.1 b.1 (cases_eq a.0 (cost_of problem j (cut_kind problem j k) column + b.0))
         own (inl a) (inr n) = inr (λ t. n t.after t.arrives)
         own (inr n) b = inr (λ t. n t.before t.leaves)
 
@@ -85,12 +76,11 @@ module _ (problem : Problem) where
     -- a move is kept below a stage, or not, where the kinds of the stages below it ascend
     pub is_kept : (r : ℕ) → ((j : ℕ) → j < r → IsStrictlySortedBy kind_order (kinds_at problem j (nodes_at stages j)))
         → (k : PrefixKind) (column : List Sym) → Decided (IsKeptBelow problem stages r k column)
-    is_kept r ascending k column = own (is_fitting k column) (for_all_below (IsTightFrom k column) r
-        (λ j l. tight j (ascending j l)))
+    is_kept r ascending k column = own (is_fitting k _) (for_all_below _ r (λ j l. tight j (ascending j l)))
       where
         tight : (j : ℕ) → IsStrictlySortedBy kind_order (kinds_at problem j (nodes_at stages j))
             → Decided (IsTightFrom k column j)
-        tight j h = told (is_tight j h k column)
+        tight j h = told (is_tight j h k _)
           where
             told : Decided (IsTightAt problem stages j k column) → Decided (IsTightFrom k column j)
             told (inl t) = inl (λ some. t)

@@ -104,10 +104,10 @@ is_member is (y ∷ ys) x = own (is y x) (is_member is ys x)
     own : Decided (y ≡ x) → Decided (Contains ys x) → Decided (Contains (y ∷ ys) x)
     own (inl e) d = inl (0, omega arith, e)
     own (inr n) (inl h) = inl (suc h.0, omega (arith, h.1), h.2)
-    own (inr n) (inr none) = inr (λ h. no_place n none h.0 h.1 h.2)
+    own (inr n) (inr none) = inr (λ h. no_place n none _ h.1 h.2)
 
 pub is_kind : (k l : PrefixKind) → Decided (k ≡ l)
-is_kind k l = by (kind_order k l) refl
+is_kind k l = by _ refl
   where
     other : is_eq (kind_order k l) ≡ false → k ≡ l → ⊥
     other h e = true≢false

@@ -1,13 +1,12 @@
 -- In a certified answer no fault is.
-use Rattle.std.proofs.Common.{◌≡◌, ℕ, ◌+◌, ◌-◌, ◌<◌, Bool, IsTrue, List, [], length, get_or, slice_get, Some, None}
+use Rattle.std.proofs.Common.{◌≡◌, ℕ, ◌+◌, ◌-◌, ◌<◌, Bool, IsTrue, List, length, get_or, slice_get, Some, None}
 use Rattle.std.proofs.Common.{Option, refl, sym, ap, ◌∙◌, subst, arith, inl, inr, Contains, All, AllPairs}
 use Rattle.std.proofs.{lemmas.List.length-map, lemmas.List.Elements.All-contains, lemmas.Map.Keys.Less-from_sorted}
 use Rattle.std.proofs.lemmas.Option.{slice_get_within, get_or_from_slice_get, slice_get-map}
 use Rattle.std.specs.{Prelude.{option_map, unwrap_or}, List.Sorted.IsStrictlySortedBy}
-use Rattle.std.specs.declared.cmp.Ordering.TheVariants.{Less}
 use Rattle.tier_core.specs.{declared.sym.Sym.Sym, declared.kind.Kind.Kind, Kinds.{PrefixKind, kind_order}}
 use Rattle.tier_core.specs.Classes.{has, AreDisjoint}
-use Rattle.violation.specs.{Counts.violations_of, Moves.{next_kind, cut_kind}, Prefixes.{kind_of, kind_of_bits}}
+use Rattle.violation.specs.{Counts.violations_of, Moves.{next_kind, cut_kind}, Prefixes.{kind_of_bits}}
 use Rattle.violation.specs.Problems.{Problem, last_stage}
 use Rattle.answer_text.specs.{declared.stage.Node.Node, declared.automaton.ArcLine.ArcLine}
 use Rattle.answer_text.specs.{declared.automaton.StateLine.StateLine, declared.answer.Answer.Answer}
@@ -41,7 +40,7 @@ module _ (problem : Problem) (answer : Answer) where
       → Lists problem answer.stages.items r (kind_of_bits problem r node.kind) node.potential
   node_lists r n node h = record {
     node = node;
-    listed = contains_numbered (nodes_at answer.stages.items r) n node h.numbered;
+    listed = contains_numbered _ n _ h.numbered;
     tells = refl;
     potential = refl;
   }
@@ -55,88 +54,75 @@ module _ (problem : Problem) (answer : Answer) where
     pub node_in_order : (n : ℕ) (node : Node) → HasNode answer r n node
         → IsInOrder problem answer.stages.items r n (kind_of_bits problem r node.kind)
     node_in_order n node h =
-        let kinds : List PrefixKind = kinds_at problem r (nodes_at answer.stages.items r) in
-        let k : PrefixKind = kind_of_bits problem r node.kind in
-        let here : slice_get kinds n ≡ Some k = node_kind r n node h in
-        let member : Contains kinds k = contains_numbered kinds n k here in
+        let kinds = kinds_at problem r (nodes_at answer.stages.items r) in
+        let k = kind_of_bits problem r node.kind in
+        let here = node_kind r n _ h in
+        let member = contains_numbered _ n k here in
         record {
           possible = All-contains (IsPossibleKind problem r) kinds k certified.kinds member;
-          after = λ l some e.
-              subst (λ x. kind_order x k ≡ Less) (get_or_from_slice_get kinds (n - 1) l k e)
-              (subst (λ x. kind_order (get_or kinds (n - 1) k) x ≡ Less) (get_or_from_slice_get kinds n k k here)
+          after = λ l some e. rw (get_or_from_slice_get _ _ l k e) at (rw (get_or_from_slice_get _ n k k here) at
               (Less-from_sorted kind_order kinds (n - 1) n k certified.ascending (omega (arith, some))
-              (slice_get_within kinds n k here)));
+              (slice_get_within _ n k here)));
           cut_before = λ some. All-contains
               (λ x. Contains (kinds_at problem (r - 1) (nodes_at answer.stages.items (r - 1)))
               (cut_kind problem (r - 1) x)) kinds k (certified.cuts some) member;
         }
 
     no_wrong_node : (n : ℕ) → HasWrongNode problem answer r n → ⊥
-    no_wrong_node n h = h.wrong (node_in_order n h.node h.is)
+    no_wrong_node n h = h.wrong (node_in_order n _ h.is)
 
     no_missing_start : LacksStart problem answer r → ⊥
     no_missing_start h = h.lacks certified.first
 
     no_final_potential : (n listed : ℕ) → HasFinalPotential problem answer r n listed → ⊥
-    no_final_potential n listed h = h.differs
-        (h.listed_is ∙ certified.final (kind_of_bits problem r h.node.kind) h.node.potential
-        (node_lists r n h.node h.is) h.final)
+    no_final_potential n listed h = h.differs (h.listed_is ∙ certified.final (kind_of_bits problem r h.node.kind)
+        h.node.potential (node_lists r n _ h.is) h.final)
 
     no_unlisted : (n : ℕ) (column : List Sym) (missing : Kind) → IsNotClosed problem answer r n column missing → ⊥
     no_unlisted n column missing h =
         let next = certified.goes_on (kind_of_bits problem r h.node.kind) h.node.potential column
-        (node_lists r n h.node h.is) h.kept in
+        (node_lists r n _ h.is) h.kept in
         h.unlisted next.0 next.1.0
 
     no_high_potential : (n : ℕ) (column : List Sym) (listed allowed : ℕ)
         → HasHighPotential problem answer r n column listed allowed → ⊥
     no_high_potential n column listed allowed h =
         let next = certified.goes_on (kind_of_bits problem r h.node.kind) h.node.potential column
-        (node_lists r n h.node h.is) h.kept in
-        let same : next.0 ≡ h.next = one_potential problem r answer.stages.items certified.ascending
-        (next_kind problem r (kind_of_bits problem r h.node.kind) column) next.0 h.next next.1.0 h.leads in
+        (node_lists r n _ h.is) h.kept in
+        let same = one_potential _ r _ certified.ascending _ _ _ next.1.0 h.leads in
         omega (arith, next.1.1, same, h.listed_is, h.allowed_is, h.above)
 
     no_wrong_start : (listed count : ℕ) → HasWrongStart answer r listed count → ⊥
     no_wrong_start listed count h =
-        let start : kind_of_bits problem r h.node.kind
-        ≡ kind_of problem r [] = some_same (sym (node_kind r 0 h.node h.is) ∙ certified.first) in
-        h.differs (h.listed_is ∙ certified.start h.node.potential
-        (subst (λ k. Lists problem answer.stages.items r k h.node.potential) start (node_lists r 0 h.node h.is))
-        ∙ sym h.count_is)
+        let start = some_same (sym (node_kind r 0 _ h.is) ∙ certified.first) in
+        h.differs
+        (h.listed_is ∙ certified.start h.node.potential (rw start at (node_lists r 0 _ h.is)) ∙ sym h.count_is)
 
   module _ (states : AreStatesInOrder problem.tiers.width answer.automaton.states.items)
       (ascending : IsStrictlySortedBy kind_order
       (kinds_at problem (last_stage problem) (nodes_at answer.stages.items (last_stage problem))))
       (certified : IsCertifiedAutomaton problem answer.stages.items answer.automaton.states.items) where
     state_number : (n : ℕ) (line : StateLine) → HasState answer n line → IsState answer n
-    state_number n line h = subst (IsState answer) h.numbered
-        (contains_map (λ (state : StateLine). state.node) answer.automaton.states.items line h.listed)
+    state_number n line h = subst (IsState answer) h.numbered (contains_map _ _ _ h.listed)
 
     no_missing_target : (state arc target : ℕ) → LacksTarget answer state arc target → ⊥
     no_missing_target state arc target h =
-        h.lacks (subst (IsState answer) (sym h.target_is)
-        (All-contains (λ (a : ArcLine). IsState answer a.target) h.line.arcs.items h.arc_line
-        (All-contains (λ (line : StateLine). All
-        (λ (a : ArcLine). IsState answer a.target) line.arcs.items) answer.automaton.states.items h.line
-        certified.targets h.is.listed)
-        (contains_numbered h.line.arcs.items arc h.arc_line h.numbered)))
+        h.lacks (rw h.target_is (All-contains (λ (a : ArcLine). IsState answer a.target) h.line.arcs.items h.arc_line
+        (All-contains (λ (line : StateLine). All (λ (a : ArcLine). IsState answer a.target) line.arcs.items)
+        answer.automaton.states.items h.line certified.targets h.is.listed) (contains_numbered _ _ _ h.numbered)))
 
     no_wrong_mark : (state : ℕ) (listed : Bool) → HasWrongMark problem answer state listed → ⊥
     no_wrong_mark state listed h =
-        h.differs (h.listed_is ∙ certified.finals h.line h.kind h.is.listed
-        (subst (λ n. IsNodeOf problem (nodes_at answer.stages.items (last_stage problem)) n h.kind)
-        (sym h.is.numbered) h.of_kind))
+        h.differs (h.listed_is ∙ certified.finals h.line h.kind h.is.listed (rw h.is.numbered h.of_kind))
 
     no_twice : (state : ℕ) (column : List Sym) → HasTwice answer state column → ⊥
     no_twice state column h =
-        let arcs : List ArcLine = h.line.arcs.items in
-        let apart : AllPairs (λ (a b : ArcLine). AreDisjoint a.class b.class) arcs =
+        let arcs = h.line.arcs.items in
+        let apart =
         All-contains (λ (line : StateLine). AllPairs
         (λ (a b : ArcLine). AreDisjoint a.class b.class) line.arcs.items) answer.automaton.states.items h.line
         certified.once h.is.listed in
-        let later : get_or arcs h.second h.first_arc
-        ≡ h.second_arc = get_or_from_slice_get arcs h.second h.second_arc h.first_arc h.second_is in
+        let later = get_or_from_slice_get arcs h.second h.second_arc h.first_arc h.second_is in
         apart h.first h.second h.first_arc h.ascending (slice_get_within arcs h.second h.second_arc h.second_is) column
         (ap (λ (a : ArcLine). has a.class column)
         (get_or_from_slice_get arcs h.first h.first_arc h.first_arc h.first_is) ∙ h.in_first)
@@ -152,8 +138,7 @@ module _ (problem : Problem) (answer : Answer) where
           → IsKeptBelow problem answer.stages.items (last + 1) kind column × IsNodeOf problem
           (nodes_at answer.stages.items last) arc.target (next_kind problem last kind column)
       kept_by_arc arc leaves holds =
-          (certified.arcs state arc.target kind column (state_number state line is) of_kind).0
-          (record {
+          (certified.arcs state arc.target kind column (state_number _ _ is) of_kind).0 (record {
             state = line;
             arc = arc;
             listed = is.listed;
@@ -166,23 +151,19 @@ module _ (problem : Problem) (answer : Answer) where
       one_target_kept : (listed kept : Option ℕ) → IsListedTarget line.arcs.items column listed
           → IsKeptTarget problem answer kind column kept → listed ≡ kept
       one_target_kept None None h k = refl
-      one_target_kept (Some m) None h k = absurd (k (kept_by_arc h.0 h.1.0 h.1.1).0)
+      one_target_kept (Some m) None h k = absurd (k (kept_by_arc _ h.1.0 h.1.1).0)
       one_target_kept None (Some m) h k =
-          let arc = (certified.arcs state m kind column (state_number state line is) of_kind).1 (k.0, k.1) in
-          let same : arc.state
-          ≡ line = one_state answer.automaton.states.items states.ascending arc.state line arc.listed is.listed
-          (arc.from ∙ sym is.numbered) in
-          absurd (h arc.arc (subst (λ (l : StateLine). Contains l.arcs.items arc.arc) same arc.leaves) arc.holds)
+          let arc = (certified.arcs state m kind column (state_number _ _ is) of_kind).1 (k.0, k.1) in
+          let same = one_state _ states.ascending _ _ arc.listed is.listed (arc.from ∙ sym is.numbered) in
+          absurd (h arc.arc (rw same at arc.leaves) arc.holds)
       one_target_kept (Some m) (Some l) h k =
-          let by = kept_by_arc h.0 h.1.0 h.1.1 in
-          ap (λ (n : ℕ). Some n) (sym h.1.2
-          ∙ one_number problem (nodes_at answer.stages.items last) ascending
-          (next_kind problem last kind column) h.0.target l by.1 k.1)
+          let by = kept_by_arc _ h.1.0 h.1.1 in
+          ap (λ (n : ℕ). Some n) (sym h.1.2 ∙ one_number _ _ ascending _ _ l by.1 k.1)
 
     no_wrong_arcs : (state : ℕ) (column : List Sym) (listed kept : Option ℕ)
         → HasWrongArcs problem answer state column listed kept → ⊥
     no_wrong_arcs state column listed kept h =
-        h.differs (one_target_kept state column h.line h.is h.kind h.of_kind listed kept h.listed_is h.kept_is)
+        h.differs (one_target_kept _ _ h.line h.is h.kind h.of_kind _ _ h.listed_is h.kept_is)
 
   -- in a certified answer no fault is, whatever its place
   module _ (states : AreStatesInOrder problem.tiers.width answer.automaton.states.items)
@@ -197,8 +178,8 @@ module _ (problem : Problem) (answer : Answer) where
 
     no_missing_stage : (listed wanted : ℕ) → LacksStage problem answer listed wanted → ⊥
     no_missing_stage listed wanted h =
-        let counted : length answer.counts.items ≡ last_stage problem = ap length certified.counts
-        ∙ length-map problem.constraints (λ c. violations_of c answer.example) in
+        let counted = ap length certified.counts ∙ length-map problem.constraints (λ c. violations_of c answer.example)
+        in
         elim h.listed_is [
           | inl e ↦ h.differs (e ∙ certified.stage_count ∙ sym h.wanted_is)
           | inr e ↦ h.differs (omega (arith, e.1, counted, h.wanted_is))

@@ -37,17 +37,16 @@ pub flagged_more : (f : ℕ → Bool) (kinds : List TierKind) (tier free mask mo
     → more < 2 ^ (free + 1) → has_tier more free ≡ f tier
     → ((t : ℕ) → t < free → has_tier more t ≡ has_tier mask t) → AreFlagged f kinds (tier + 1) (free + 1) more
 flagged_more f kinds tier free mask more d a l h within here others =
-    let same : open_tiers free mask ≡ open_tiers free more =
+    let same =
     fill_by_all (has_tier more) (open_tiers free mask) free false (length-map-range_with_len (has_tier mask) 0 free)
-    (λ k b. get_or-map-range_with_len (has_tier mask) 0 free k k false b (omega arith) ∙ sym (others k b)) in
+    (λ k b. get_or-map-range_with_len _ 0 _ k k false b (omega arith) ∙ sym (others k b)) in
     record {
       few = omega (arith, a.few);
       within = within;
-      told = ap (λ fs. fs ++ rest_from f kinds (tier + 1))
-          (map-range_with_len_more (has_tier more) 0 free free (omega arith)
-          ∙ ap₂ (λ fs b. fs ++ b ∷ []) (sym same) here)
-          ∙ append_assoc (open_tiers free mask) (f tier ∷ []) (rest_from f kinds (tier + 1))
-          ∙ ap (λ fs. open_tiers free mask ++ fs) (sym (rest_step f kinds tier d true l h)) ∙ a.told;
+      told = ap (λ fs. fs ++ rest_from f kinds (tier + 1)) (map-range_with_len_more (has_tier more) 0 free free
+          (omega arith) ∙ ap₂ (λ fs b. fs ++ b ∷ []) (sym same) here) ∙ append_assoc (open_tiers free mask)
+          (f tier ∷ []) (rest_from f kinds (tier + 1)) ∙ ap (λ fs. open_tiers free mask ++ fs)
+          (sym (rest_step f _ _ d _ l h)) ∙ a.told;
     }
 
 pub flagged_same : (f : ℕ → Bool) (kinds : List TierKind) (tier free mask : ℕ) (d : TierKind)
@@ -56,14 +55,14 @@ pub flagged_same : (f : ℕ → Bool) (kinds : List TierKind) (tier free mask : 
 flagged_same f kinds tier free mask d a l h = record {
   few = omega (arith, a.few);
   within = a.within;
-  told = ap (λ fs. open_tiers free mask ++ fs) (sym (rest_step f kinds tier d false l h)) ∙ a.told;
+  told = ap (λ fs. open_tiers free mask ++ fs) (sym (rest_step f _ _ d _ l h)) ∙ a.told;
 }
 
 module _ (f : ℕ → Bool) (kinds : List TierKind) (tier free mask : ℕ) (a : AreFlagged f kinds tier free mask)
     (l : length kinds ≤ tier) where
   told : open_tiers free mask ≡ map f (numbers_from is_free 0 kinds)
-  told = sym (append-nil (open_tiers free mask))
-      ∙ ap (λ ks. open_tiers free mask ++ map f (numbers_from is_free tier ks)) (sym (drop_all tier kinds l)) ∙ a.told
+  told = sym (append-nil (open_tiers free mask)) ∙ ap
+      (λ ks. open_tiers free mask ++ map f (numbers_from is_free tier ks)) (sym (drop_all _ kinds l)) ∙ a.told
 
   count : free ≡ length (numbers_from is_free 0 kinds)
   count = sym (length-map-range_with_len (has_tier mask) 0 free) ∙ ap length told

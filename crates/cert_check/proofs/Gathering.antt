@@ -16,7 +16,7 @@ or_assoc true b c = refl
 or_assoc false b c = refl
 
 pub adds_none : (xs : List Class) → AddsColumns xs xs (λ column. false)
-adds_none xs = record { filled = λ h. h; held = λ column. sym (or_false (some_has xs column)) }
+adds_none xs = record { filled = λ h. h; held = λ column. sym (or_false _) }
 
 pub adds_same : (xs ys : List Class) (s t : List Sym → Bool) → ((column : List Sym) → s column ≡ t column)
     → AddsColumns xs ys s → AddsColumns xs ys t
@@ -44,9 +44,8 @@ adds_more xs ys zs t e f h = record {
 
 pub adds_one : (xs ys : List Class) (class : Class) → ys ≡ xs ++ class ∷ [] → IsTrue (is_filled class)
     → AddsColumns xs ys (has class)
-adds_one xs ys class e f = adds_more xs ys (class ∷ []) (has class) e
-    (All-from_recursion (λ (c : Class). IsTrue (is_filled c)) (class ∷ []) (f, tt))
-    (λ column. or_false (has class column))
+adds_one xs ys class e f = adds_more xs ys _ _ e
+    (All-from_recursion (λ (c : Class). IsTrue (is_filled c)) (class ∷ []) (f, tt)) (λ column. or_false _)
 
 -- what is added by an arc more
 pub arc_more : (xs ys zs : List Class) (test : ArcLine → List Sym → Bool) (arcs : List ArcLine) (n : ℕ) (arc : ArcLine)
@@ -54,11 +53,8 @@ pub arc_more : (xs ys zs : List Class) (test : ArcLine → List Sym → Bool) (a
     → AddsColumns xs ys (λ column. list_any (λ x. test x column) (take n arcs)) → AddsColumns ys zs (test arc)
     → AddsColumns xs zs (λ column. list_any (λ x. test x column) (take (n + 1) arcs))
 arc_more xs ys zs test arcs n arc l e a b =
-    adds_same xs zs (λ column. list_any (λ x. test x column) (take n arcs) || test arc column)
-    (λ column. list_any (λ x. test x column) (take (n + 1) arcs))
-    (λ column. ap (λ x. list_any (λ y. test y column) (take n arcs) || test x column) e
-    ∙ sym (list_any_more (λ x. test x column) arcs n arc l))
-    (adds_both xs ys zs (λ column. list_any (λ x. test x column) (take n arcs)) (test arc) a b)
+    adds_same xs zs _ _ (λ column. ap (λ x. list_any (λ y. test y column) (take n arcs) || test x column) e ∙ sym
+    (list_any_more (λ x. test x column) arcs n arc l)) (adds_both xs ys zs _ _ a b)
 
 -- ---- what a class has in common with arcs
 
@@ -87,26 +83,21 @@ pub shared_more : (arcs : List ArcLine) (place n : ℕ) (class : Class) (arc : A
 shared_more arcs place n class arc xs ys zs from l e a b =
     let one_more : n - (place + 1) + 1 ≡ n + 1 - (place + 1) = omega (arith, from) in
     let at : place + 1 + (n - (place + 1)) ≡ n = omega (arith, from) in
-    subst (λ m. AddsColumns xs zs (λ column. list_any (λ x. has class column && has x.class column)
-    (take m (drop (place + 1) arcs)))) one_more
-    (arc_more xs ys zs (λ x column. has class column && has x.class column) (drop (place + 1) arcs)
-    (n - (place + 1)) arc (omega (arith, from, l, length-drop (place + 1) arcs))
+    rw one_more at (arc_more xs ys zs _ _ (n - (place + 1)) arc (omega (arith, from, l, length-drop (place + 1) arcs))
     (e ∙ sym (ap (λ m. get_or arcs m arc) at) ∙ sym (get_or-drop (place + 1) arcs (n - (place + 1)) arc)) a b)
 
 pub shared_all : (arcs : List ArcLine) (place n : ℕ) (class : Class) (xs ys : List Class) → length arcs ≤ n
     → AddsColumns xs ys (is_shared_to arcs place n class)
     → AddsColumns xs ys (λ column. has class column && some_has (arc_classes (drop (place + 1) arcs)) column)
-shared_all arcs place n class xs ys l a = adds_same xs ys (is_shared_to arcs place n class)
-    (λ column. has class column && some_has (arc_classes (drop (place + 1) arcs)) column)
-    (λ column. ap (list_any (λ (x : ArcLine). has class column && has x.class column))
-    (take_all (n - (place + 1)) (drop (place + 1) arcs) (omega (arith, l, length-drop (place + 1) arcs)))
-    ∙ common_held class (drop (place + 1) arcs) column) a
+shared_all arcs place n class xs ys l a = adds_same xs ys _ _ (λ column. ap
+    (list_any (λ (x : ArcLine). has class column && has x.class column))
+    (take_all _ _ (omega (arith, l, length-drop (place + 1) arcs))) ∙ common_held _ _ _) a
 
 pub shared_none : (arcs : List ArcLine) (place : ℕ) (class : Class) (xs : List Class)
     → AddsColumns xs xs (is_shared_to arcs place (place + 1) class)
-shared_none arcs place class xs = adds_same xs xs (λ column. false) (is_shared_to arcs place (place + 1) class)
-    (λ column. ap (λ n. list_any (λ (x : ArcLine). has class column && has x.class column)
-    (take n (drop (place + 1) arcs))) (let e : 0 ≡ place + 1 - (place + 1) = omega arith in e)) (adds_none xs)
+shared_none arcs place class xs = adds_same xs xs _ _ (λ column. ap
+    (λ n. list_any (λ (x : ArcLine). has class column && has x.class column) (take n (drop (place + 1) arcs)))
+    (let e : 0 ≡ place + 1 - (place + 1) = omega arith in e)) (adds_none xs)
 
 -- ---- columns in two arcs
 
@@ -138,14 +129,13 @@ pub twice_all : (old new : List Class) (arcs : List ArcLine) (n : ℕ) → lengt
     → AddsColumns old new (is_twice arcs)
 twice_all old new arcs n l a = record {
   filled = a.filled;
-  held = λ column. sym (or_false (some_has new column))
-      ∙ ap (λ xs. some_has new column || is_twice xs column) (sym (drop_all n arcs l)) ∙ a.held column;
+  held = λ column. sym (or_false _) ∙ ap (λ xs. some_has new column || is_twice xs column) (sym (drop_all n arcs l)) ∙
+      a.held column;
 }
 
 -- an empty class has nothing to add
 pub adds_empty : (xs : List Class) (class : Class) → is_filled class ≡ false → AddsColumns xs xs (has class)
-adds_empty xs class e = adds_same xs xs (λ column. false) (has class) (λ column. sym (empty_holds class column e))
-    (adds_none xs)
+adds_empty xs class e = adds_same xs xs _ _ (λ column. sym (empty_holds _ _ e)) (adds_none xs)
 
 -- there is an element with each number
 pub one_there : {X : Type 0} (xs : List X) (i : ℕ) → i < length xs → (x : X) × (slice_get xs i ≡ Some x)

@@ -1,13 +1,13 @@
 -- Columns that no constraint of a stage tells apart go on alike up to this stage; and tests that are put
 -- one behind the other.
 use Rattle.std.proofs.Common.{◌≡◌, ℕ, ◌+◌, ◌-◌, ◌<◌, ◌≤◌, Bool, cond, List, [], ◌∷◌, ◌++◌, length, map, take}
-use Rattle.std.proofs.Common.{filter, get_or, sym, ap, ap₂, ◌∙◌, subst, append_assoc, append-nil, below_more}
+use Rattle.std.proofs.Common.{get_or, sym, ap, ap₂, ◌∙◌, append_assoc, append-nil, below_more}
 use Rattle.std.proofs.lemmas.List.{take-take}
 use Rattle.std.proofs.lemmas.List.Elements.{All-from_recursion, recursion_from_All, All-append}
 use Rattle.std.specs.List.{AllByRecursion}
 use Rattle.tier_core.specs.{declared.class.Class.Class, declared.sym.Sym.Sym, Classes.{sets_of, has}}
-use Rattle.tier_core.specs.{Kinds.{Phase, PrefixKind}, Scan.opens, Sides.is_stretch, Timelines.{symbol, has_edge}}
-use Rattle.violation.specs.{Moves.{input_of, is_tier_open, next_phases, next_kind, cost_of}, Prefixes.stretches}
+use Rattle.tier_core.specs.{Kinds.{Phase, PrefixKind}, Scan.opens, Timelines.{symbol, has_edge}}
+use Rattle.violation.specs.{Moves.{input_of, next_phases, next_kind, cost_of}, Prefixes.stretches}
 use Rattle.violation.specs.Problems.{Problem}
 use Rattle.violation.proofs.{TierLemmas.map_agree, WalkLemmas.all_split}
 use Rattle.cert_check.specs.{Alike.AreAlikeFor, Fitting.{GoOnAlike, OpenAlike}, Tests.{AddsTests, AgreeOn}}
@@ -48,7 +48,7 @@ adds_then width old mid new P Q R hangs a b = record {
   new_is = b.new_is ∙ ap (λ xs. xs ++ b.added) a.new_is ∙ append_assoc old a.added b.added;
   one_width = All-append (λ (test : Class). length (sets_of test) ≡ width) a.added b.added a.one_width b.one_width;
   told = λ c d lc ld agree.
-      let both = agree_parts a.added b.added c d agree in
+      let both = agree_parts _ _ c d agree in
       hangs c d (a.told c d lc ld both.0) (b.told c d lc ld both.1);
 }
 
@@ -59,19 +59,15 @@ pub open_more : (width : ℕ) (old mid new : List Class) (test : Class) (tier : 
     → ((c : List Sym) → length c ≡ width → has test c ≡ opens (symbol c tier))
     → AddsTests width old new (λ c d. (t : ℕ) → t < tier + 1 → opens (symbol c t) ≡ opens (symbol d t))
 open_more width old mid new test tier a is wide told =
-    adds_then width old mid new (λ c d. (t : ℕ) → t < tier → opens (symbol c t) ≡ opens (symbol d t))
-    (λ c d. opens (symbol c tier) ≡ opens (symbol d tier))
-    (λ c d. (t : ℕ) → t < tier + 1 → opens (symbol c t) ≡ opens (symbol d t))
-    (λ c d so_far here. below_more (λ t. opens (symbol c t) ≡ opens (symbol d t)) tier so_far here) a
-    (adds_one width mid new test (λ c d. opens (symbol c tier) ≡ opens (symbol d tier)) is wide
-    (λ c d lc ld e. sym (told c lc) ∙ e ∙ told d ld))
+    adds_then _ _ _ _ _ _ _ (λ c d so_far here. below_more _ _ so_far here) a
+    (adds_one _ _ _ _ _ is wide (λ c d lc ld e. sym (told c lc) ∙ e ∙ told d ld))
 
 -- ---- columns that go on alike
 
 each_open : (ts : List ℕ) (width : ℕ) (c d : List Sym) → AllByRecursion (λ t. t < width) ts → OpenAlike width c d
     → AllByRecursion (λ t. opens (symbol c t) ≡ opens (symbol d t)) ts
 each_open [] width c d below h = tt
-each_open (t ∷ ts) width c d below h = (h t below.0, each_open ts width c d below.1 h)
+each_open (t ∷ ts) width c d below h = (h t below.0, each_open ts _ c d below.1 h)
 
 module _ (problem : Problem) (stage : ℕ) (below : AllByRecursion (λ t. t < problem.tiers.width) problem.tiers.free)
     (c d : List Sym) (edge : has_edge (input_of problem.tiers c) ≡ has_edge (input_of problem.tiers d))
@@ -80,24 +76,18 @@ module _ (problem : Problem) (stage : ℕ) (below : AllByRecursion (λ t. t < pr
   moves : (r : ℕ) (k : PrefixKind) → r ≤ stage → next_kind problem r k c ≡ next_kind problem r k d
   moves r k l =
       let first : AllByRecursion (IsNextAlike c d) (stretches problem r) =
-      subst (λ xs. AllByRecursion (IsNextAlike c d) (filter is_stretch xs)) (take-take r stage problem.constraints l)
-      (stretches_alike (take stage problem.constraints) r c d alike) in
+      rw (take-take r stage problem.constraints l) at (stretches_alike _ r c d alike) in
       let of : Bool → List Bool → List Phase
       → PrefixKind = λ e bs ps. record { place = k.place + cond e 1 0; opened = bs; phases = ps } in
-      ap (λ e. of e (map (λ t. opens (symbol c t)) problem.tiers.free)
-      (next_phases (stretches problem r) k.phases c)) edge
-      ∙ ap₂ (of (has_edge (input_of problem.tiers d)))
-      (map_agree (λ t. opens (symbol c t)) (λ t. opens (symbol d t)) problem.tiers.free
-      (each_open problem.tiers.free problem.tiers.width c d below opened))
-      (all_next_alike (stretches problem r) c d first k.phases)
+      ap (λ e. of e (map (λ t. opens (symbol c t)) problem.tiers.free) (next_phases (stretches problem r) k.phases c))
+      edge ∙ ap₂ (of (has_edge (input_of problem.tiers d))) (map_agree _ _ _ (each_open _ _ c d below opened))
+      (all_next_alike _ c d first _)
 
   costs : (r : ℕ) (k : PrefixKind) → r ≤ stage → cost_of problem r k c ≡ cost_of problem r k d
   costs r k l =
       let first : AllByRecursion (λ x. AreAlikeFor x c d) (take r problem.constraints) =
-      subst (AllByRecursion (λ x. AreAlikeFor x c d)) (take-take r stage problem.constraints l)
-      (first_alike (λ x. AreAlikeFor x c d) (take stage problem.constraints) r alike) in
-      ap (λ ns. get_or ns (r - 1) 0)
-      (all_costs_alike (take r problem.constraints) (is_tier_open problem k) c d first k.phases)
+      rw (take-take r stage problem.constraints l) at (first_alike _ _ r alike) in
+      ap (λ ns. get_or ns (r - 1) 0) (all_costs_alike _ _ c d first _)
 
   pub go_on_alike : GoOnAlike problem stage c d
   go_on_alike = record { moves = moves; costs = costs }

@@ -5,7 +5,7 @@ use Rattle.violation.specs.{Candidates.{IsCandidate, counts_on}, Problems.Proble
 use Rattle.answer_text.specs.declared.answer.Answer.{Answer}
 use Rattle.cert_check.specs.declared.fault.Fault.{Fault}
 use Rattle.cert_check.specs.declared.fault.Fault.TheVariants.{ExampleWrong, CountsDiffer}
-use Rattle.cert_check.specs.{Places.{IsBefore, at_example, at_count}, Faults.HasWrongCount, FirstFaults.IsFirstFault}
+use Rattle.cert_check.specs.{Places.{IsBefore}, Faults.HasWrongCount, FirstFaults.IsFirstFault}
 use Rattle.cert_check.specs.{Heads.{HasRightForm, HasRightNumbers, IsFirstCountFault}, Parts.InAnswer}
 use Rattle.cert_check.proofs.Parts.{none_before, first_fault}
 
@@ -52,8 +52,8 @@ module _ (problem : Problem) (answer : Answer) where
   pub first_example : HasRightForm problem → HasRightNumbers problem answer → (IsCandidate problem answer.example → ⊥)
       → IsFirstFault problem answer ExampleWrong
   first_example form numbers wrong =
-      first_fault problem answer ExampleWrong at_example (wrong, refl)
-      (none_before (InAnswer problem answer) 2 [] (below_three (form_part form) (numbers_part numbers)) (λ rest w b. b))
+      first_fault _ _ _ _ (wrong, refl)
+      (none_before _ 2 [] (below_three (form_part form) (numbers_part numbers)) (λ rest w b. b))
 
   first_counts_at : HasRightForm problem → HasRightNumbers problem answer → IsCandidate problem answer.example
       → (place : ℕ) → place < length answer.counts.items
@@ -62,10 +62,9 @@ module _ (problem : Problem) (answer : Answer) where
       → IsFirstFault problem answer (CountsDiffer (place + 1) (get_or answer.counts.items place 0)
       (get_or (counts_on problem answer.example) place 0))
   first_counts_at form numbers example place within differs first =
-      let listed : List ℕ = answer.counts.items in
-      let counted : List ℕ = counts_on problem answer.example in
-      first_fault problem answer (CountsDiffer (place + 1) (get_or listed place 0) (get_or counted place 0))
-      (at_count (place + 1)) (
+      let listed = answer.counts.items in
+      let counted = counts_on problem answer.example in
+      first_fault _ _ _ _ (
         record {
           some = omega arith;
           within = omega (arith, within, numbers.counts);
@@ -75,25 +74,21 @@ module _ (problem : Problem) (answer : Answer) where
         },
         refl,
       )
-      (none_before (InAnswer problem answer) 3 ((place + 1) ∷ [])
-      (below_four (form_part form) (numbers_part numbers) (example_part example))
-      (λ rest w b. earlier w.0 w.1.0 w.1.1.0 w.1.1.1.0 (subst (λ q. IsBefore q ((place + 1) ∷ [])) w.1.1.1.1 b)))
+      (none_before _ 3 ((place + 1) ∷ []) (below_four (form_part form) (numbers_part numbers) (example_part example))
+      (λ rest w b. earlier _ _ _ w.1.1.1.0 (subst (λ q. IsBefore q ((place + 1) ∷ [])) w.1.1.1.1 b)))
     where
       earlier : (constraint n m : ℕ) → HasWrongCount problem answer constraint n m
           → IsBefore (constraint ∷ []) ((place + 1) ∷ []) → ⊥
       earlier constraint n m w (inl less) =
-          w.differs (w.listed_is ∙ sym (get_or-take place answer.counts.items (constraint - 1) 0
-          (omega (arith, less, w.some)))
-          ∙ ap (λ (v : List ℕ). get_or v (constraint - 1) 0) first
-          ∙ get_or-take place (counts_on problem answer.example) (constraint - 1) 0 (omega (arith, less, w.some))
-          ∙ sym w.counted_is)
+          w.differs (w.listed_is ∙ sym
+          (get_or-take place answer.counts.items (constraint - 1) 0 (omega (arith, less, w.some))) ∙ ap
+          (λ (v : List ℕ). get_or v (constraint - 1) 0) first ∙ get_or-take _ _ (constraint - 1) 0
+          (omega (arith, less, w.some)) ∙ sym w.counted_is)
       earlier constraint n m w (inr same) = same.1
 
   pub first_counts : HasRightForm problem → HasRightNumbers problem answer → IsCandidate problem answer.example
       → (counted : List ℕ) → counted ≡ counts_on problem answer.example
       → (fault : Fault) → IsFirstCountFault answer.counts.items counted fault → IsFirstFault problem answer fault
   first_counts form numbers example counted is fault h =
-      let f : IsFirstCountFault answer.counts.items (counts_on problem answer.example) fault = subst
-      (λ (v : List ℕ). IsFirstCountFault answer.counts.items v fault) is h in
-      subst (IsFirstFault problem answer) (sym f.is)
-      (first_counts_at form numbers example f.place f.within f.differs f.first)
+      let f : IsFirstCountFault answer.counts.items (counts_on problem answer.example) fault = rw is at h in
+      rw f.is (first_counts_at form numbers example _ f.within f.differs f.first)

@@ -1,6 +1,6 @@
 -- The least column of some classes.
 use Rattle.std.proofs.Common.{◌≡◌, ℕ, ◌+◌, ◌<◌, ◌==◌, ◌||◌, ◌⊎◌, true, false, cond, IsTrue, List, [], ◌∷◌, take}
-use Rattle.std.proofs.Common.{length, get_or, refl, sym, ap, ◌∙◌, subst, arith, inl, inr, Some, None, Option}
+use Rattle.std.proofs.Common.{length, get_or, refl, sym, ap, ◌∙◌, arith, inl, inr, Some, None, Option}
 use Rattle.std.proofs.Common.{MatchOption, true≢false}
 use Rattle.std.proofs.lemmas.Cmp.{nat_cmp_total, lists_total, on_total, tied_itself}
 use Rattle.std.proofs.lemmas.Bool.{cases_order, or_cases, le-ltb, ne_eqb, or_left, or_right}
@@ -28,11 +28,11 @@ earlier (o ∷ other) column [] b h = absurd b
 earlier (o ∷ other) [] (s ∷ lesser) b h = absurd (true≢false h)
 earlier (o ∷ other) (t ∷ column) (s ∷ lesser) b h = elim (cases_order (rank s) (rank t)) [
   | inl same ↦ rest same (λ e. earlier other column lesser e
-      (sym (ap (λ x. is_gt (ordering_then x (column_cmp lesser column))) (same_cmp (rank s) (rank t) same)) ∙ h)) b
+      (sym (ap (λ x. is_gt (ordering_then x (column_cmp lesser column))) (same_cmp _ _ same)) ∙ h)) b
   | inr apart ↦ elim apart [
     | inl less ↦ inl (below less b)
-    | inr more ↦ absurd (true≢false (sym (ap (λ o. is_gt (ordering_then o (column_cmp lesser column)))
-        (greater (rank s) (rank t) more)) ∙ h))
+    | inr more ↦ absurd
+        (true≢false (sym (ap (λ o. is_gt (ordering_then o (column_cmp lesser column))) (greater _ _ more)) ∙ h))
   ]
 ]
   where
@@ -62,24 +62,22 @@ module _ (classes : List Class) (n : ℕ) (class : Class) (within : n < length c
 
   least_first : IsNoColumn (some_has (take n classes)) → IsLeastColumn (some_has (take (n + 1) classes)) own
   least_first none = record {
-    is = more own ∙ or_right (some_has (take n classes) own) (has class own) held;
-    first = λ other h before. elim (or_cases (some_has (take n classes) other) (has class other) (sym (more other)
-        ∙ h)) [
-          | inl e ↦ true≢false (sym e ∙ none other)
-          | inr e ↦ not_after_is own other (first other e) before
-        ];
+    is = more _ ∙ or_right (some_has (take n classes) own) (has class own) held;
+    first = λ other h before. elim (or_cases _ _ (sym (more _) ∙ h)) [
+      | inl e ↦ true≢false (sym e ∙ none other)
+      | inr e ↦ not_after_is _ _ (first other e) before
+    ];
   }
 
   -- the lesser of the least columns so far and of the class
   least_next : (column lesser : List Sym) → IsLeastColumn (some_has (take n classes)) column
       → IsLesser column own lesser → IsLeastColumn (some_has (take (n + 1) classes)) lesser
   least_next column lesser so_far two = record {
-    is = more lesser ∙ held_by two.one;
-    first = λ other h before. elim (or_cases (some_has (take n classes) other) (has class other) (sym (more other)
-        ∙ h)) [
-          | inl e ↦ so_far.first other e (earlier other column lesser before two.not_after_first)
-          | inr e ↦ not_after_is own other (first other e) (earlier other own lesser before two.not_after_second)
-        ];
+    is = more _ ∙ held_by two.one;
+    first = λ other h before. elim (or_cases _ _ (sym (more _) ∙ h)) [
+      | inl e ↦ so_far.first other e (earlier _ _ _ before two.not_after_first)
+      | inr e ↦ not_after_is _ _ (first other e) (earlier _ _ _ before two.not_after_second)
+    ];
   }
     where
       held_by : (lesser ≡ column) ⊎ (lesser ≡ own) → (some_has (take n classes) lesser || has class lesser) ≡ true
@@ -90,8 +88,8 @@ module _ (classes : List Class) (n : ℕ) (class : Class) (within : n < length c
   pub least_more : (best : Option (List Sym)) (result : List Sym) → IsLeastOf (take n classes) best
       → MatchOption best (result ≡ own) (λ column. IsLesser column own result)
       → IsLeastColumn (some_has (take (n + 1) classes)) result
-  least_more None result so_far e = subst (IsLeastColumn (some_has (take (n + 1) classes))) (sym e) (least_first so_far)
-  least_more (Some column) result so_far two = least_next column result so_far two
+  least_more None result so_far e = rw e (least_first so_far)
+  least_more (Some column) result so_far two = least_next _ _ so_far two
 
 -- ---- the lesser of two columns
 
@@ -109,7 +107,7 @@ turned Greater h = refl
 pub second_lesser : (a b : List Sym) → is_gt (column_cmp a b) ≡ true → IsLesser a b b
 second_lesser a b h = record {
   one = inr refl;
-  not_after_first = ap is_gt (columns_total.antisymm b a) ∙ turned (column_cmp a b) h;
+  not_after_first = ap is_gt (columns_total.antisymm b a) ∙ turned _ h;
   not_after_second = itself b;
 }
 

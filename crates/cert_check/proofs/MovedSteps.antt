@@ -31,17 +31,15 @@ moved_told problem stage kind result column input free first place opened ei ef 
       ∙ ap (map (λ t. opens (symbol column t))) ef)
       (ap (λ cs. phases (length (filter is_stretch cs)) result) (sym ec) ∙ ph
       ∙ ap (λ cs. next_phases (filter is_stretch cs) (phases (length (filter is_stretch cs)) kind) column) ec);
-  opened = subst (λ n. n < 2 ^ length problem.tiers.free) (sym o)
-      (subst (λ (ts : List ℕ). opened < 2 ^ length ts) ef l);
-  stretches = subst (λ cs. AreStretchesBelow (length (filter is_stretch cs)) result) ec st;
+  opened = rw o (rw ef at l);
+  stretches = rw ec at st;
 }
 
 module _ (s : Subject) (ready : IsReady s) (stage : ℕ) (within : stage ≤ last_stage (problem_of s)) where
   -- the constraints of a grammar are over its tiers
   pub over_at : (n : ℕ) (c : Constraint) → n < last_stage (problem_of s) → c ≡ get_or (problem_of s).constraints n c
       → IsOverTiers (problem_of s).tiers.width c
-  over_at n c l is = subst (IsOverTiers (problem_of s).tiers.width) (sym is)
-      (All-from_recursion (IsOverTiers (problem_of s).tiers.width) (problem_of s).constraints
+  over_at n c l is = rw is (All-from_recursion (IsOverTiers (problem_of s).tiers.width) (problem_of s).constraints
       (over_tiers s.grammar.now) n c l)
 
   -- what a column costs under the last constraint of a stage
@@ -55,19 +53,18 @@ module _ (s : Subject) (ready : IsReady s) (stage : ℕ) (within : stage ≤ las
       → b ≡ costs c.family c.left c.right (has_tier mask) phase column)
       → cond b 1 0 ≡ cost_of (problem_of s) stage (kind_of_bits (problem_of s) stage kind) column
   cost_told kind column mask place c is_unmet b some fits at bits is count unmet on =
-      let number : ℕ = stage - 1 in
+      let number = stage - 1 in
       let cs = (problem_of s).constraints in
       let k = kind_of_bits (problem_of s) stage kind in
       let ph = first_phase (drop place k.phases) in
       let over = over_at number c (omega arith) is in
       let size = length-take stage cs in
-      let here : c ≡ get_or (take stage cs) number c = is ∙ sym (get_or-take stage cs number c (omega arith)) in
-      let before : place ≡ length (filter is_stretch (take number (take stage cs))) =
-      count ∙ get_or_default s.shape.now.phases.items number place 0 (stage_in s ready number (omega arith))
-      ∙ stretch_same s ready number (omega arith)
+      let here = is ∙ sym (get_or-take _ cs _ c (omega arith)) in
+      let before =
+      count ∙ get_or_default _ _ _ 0 (stage_in s ready number (omega arith)) ∙ stretch_same s ready number (omega arith)
       ∙ ap (λ xs. length (filter is_stretch xs)) (sym (take-take number stage cs (omega arith))) in
-      let below : kind.unmet < 2 ^ length (stretches (problem_of s) stage) =
-      subst (λ n. kind.unmet < 2 ^ n) (stretch_same s ready stage within) fits.stretches.unmet in
+      let below =
+      subst (λ n. kind.unmet < 2 ^ n) (stretch_same s ready _ within) fits.stretches.unmet in
       ap (λ x. cond x 1 0)
       (on ph (unmet ∙ unmet_told kind (length (stretches (problem_of s) stage)) place below)
       ∙ costs_agree c.family c.left c.right (has_tier mask) (is_tier_open (problem_of s) k) ph column

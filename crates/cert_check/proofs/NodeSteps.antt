@@ -37,16 +37,14 @@ module _ (problem : Problem) (answer : Answer) (stage n : ℕ) (node : Node) (is
       → IsRightPart problem answer stage n 0
   right_where_open e rest w =
       let h = w.1.0 in
-      both_ways (is_final problem (kind_of_bits problem stage node.kind)) e
-      (subst (λ (x : Node). IsTrue (is_final problem (kind_of_bits problem stage x.kind)))
-      (one_node answer stage n h.node node h.is is) h.final)
+      both_ways _ e (rw (one_node answer stage n h.node node h.is is) at h.final)
 
   pub first_final : is_final problem (kind_of_bits problem stage node.kind) ≡ true → node.potential ≢ 0
       → IsFirstInNode problem answer stage n (FinalPotential stage n node.potential)
   first_final e some = record {
     place = 0 ∷ [];
     is = (record { node = node; is = is; final = e; listed_is = refl; differs = some }, refl);
-    first = none_before (InNode problem answer stage n) 0 [] (λ m l. absurd (omega arith)) (λ rest w b. b);
+    first = none_before _ 0 [] (λ m l. absurd (omega arith)) (λ rest w b. b);
   }
 
   -- ---- moves that are kept on the columns of a class, and lead to one target
@@ -66,7 +64,7 @@ module _ (problem : Problem) (answer : Answer) (stage n : ℕ) (node : Node) (is
           is = is;
           kept = kept column h;
           leads = leads column h;
-          unlisted = subst (IsUnlisted problem answer.stages.items stage) (leads column h).tells none;
+          unlisted = rw (leads column h).tells at none;
         } in
         (inl (target, wrong), (column, (wrong, refl)))
 
@@ -74,7 +72,7 @@ module _ (problem : Problem) (answer : Answer) (stage n : ℕ) (node : Node) (is
       listed_at : (column : List Sym) → IsTrue (has class column)
           → Lists problem answer.stages.items stage
           (next_kind problem stage (kind_of_bits problem stage node.kind) column) next
-      listed_at column h = subst (λ k. Lists problem answer.stages.items stage k next) (leads column h).tells lists
+      listed_at column h = rw (leads column h).tells at lists
 
       pub too_high : cost + next < node.potential
           → IsMoveFault problem answer stage n class (Potential stage n node.potential (cost + next))
@@ -84,7 +82,7 @@ module _ (problem : Problem) (answer : Answer) (stage n : ℕ) (node : Node) (is
             is = is;
             kept = kept column h;
             next = next;
-            leads = listed_at column h;
+            leads = listed_at _ h;
             listed_is = refl;
             allowed_is = ap (λ m. m + next) (sym (costs column h));
             above = above;
@@ -95,21 +93,17 @@ module _ (problem : Problem) (answer : Answer) (stage n : ℕ) (node : Node) (is
           → node.potential ≤ cost + next → AreRightOn problem answer stage n class
       none_wrong ascends low column h (inl w) =
           let f = w.1 in
-          f.unlisted next (subst (λ (x : Node). Lists problem answer.stages.items stage
-          (next_kind problem stage (kind_of_bits problem stage x.kind) column) next)
-          (one_node answer stage n node f.node is f.is) (listed_at column h))
+          f.unlisted next (rw (one_node answer stage n node f.node is f.is) at (listed_at _ h))
       none_wrong ascends low column h (inr w) =
           let f = w.1.1 in
-          let same : f.node ≡ node = one_node answer stage n f.node node f.is is in
+          let same = one_node _ _ n _ _ f.is is in
           let to : Lists problem answer.stages.items stage
           (next_kind problem stage (kind_of_bits problem stage node.kind) column) f.next =
-          subst (λ (x : Node). Lists problem answer.stages.items stage
-          (next_kind problem stage (kind_of_bits problem stage x.kind) column) f.next) same f.leads in
-          let one : f.next ≡ next = one_potential problem stage answer.stages.items ascends
-          (next_kind problem stage (kind_of_bits problem stage node.kind) column) f.next next to (listed_at column h) in
-          let here : cost_of problem stage (kind_of_bits problem stage f.node.kind) column ≡ cost =
+          rw same at f.leads in
+          let one = one_potential _ _ _ ascends _ _ _ to (listed_at _ h) in
+          let here =
           ap (λ (x : Node). cost_of problem stage (kind_of_bits problem stage x.kind) column) same ∙ costs column h in
-          let potential : f.node.potential ≡ node.potential = ap (λ (x : Node). x.potential) same in
+          let potential = ap (λ (x : Node). x.potential) same in
           omega (arith, f.above, f.listed_is, f.allowed_is, one, here, potential, low)
 
 -- ---- the least column with a wrong move
@@ -117,19 +111,18 @@ module _ (problem : Problem) (answer : Answer) (stage n : ℕ) (node : Node) (is
 some_index : (classes : List Class) (column : List Sym) (d : Class) → some_has classes column ≡ true
     → (i : ℕ) × ((i < length classes) × (has (get_or classes i d) column ≡ true))
 some_index [] column d h = absurd (false≢true h)
-some_index (class ∷ classes) column d h = ⊎_elim
-    (λ here. (zero, (omega arith, here)))
+some_index (class ∷ classes) column d h = ⊎_elim (λ here. (zero, (omega arith, here)))
     (λ there. let rest = some_index classes column d there in (suc rest.0, (omega (arith, rest.1.0), rest.1.1)))
-    (or_cases (has class column) (some_has classes column) h)
+    (or_cases _ _ h)
 
 module _ {problem : Problem} {answer : Answer} {stage n : ℕ} {classes : List Class} where
   module _ {best next : ℕ} (so_far : IsLeastWrong problem answer stage n classes next best)
       (inside : next < length classes) (class : Class) (e : class ≡ get_or classes next class) where
     at_next : (P : Class → Type 0) (d : Class) → P class → P (get_or classes next d)
-    at_next P d p = subst P (e ∙ default next class d) p
+    at_next P d p = subst P (e ∙ default next _ d) p
       where
         default : (m : ℕ) (a b : Class) → get_or classes next a ≡ get_or classes next b
-        default m a b = get_or_default classes next a b inside
+        default m a b = get_or_default _ _ a b inside
 
     -- nothing is wrong on the next class
     pub least_same : AreRightOn problem answer stage n class
@@ -156,8 +149,7 @@ module _ {problem : Problem} {answer : Answer} {stage n : ℕ} {classes : List C
           (λ above. let same : m ≡ next = omega arith in
           inr (
             inside,
-            subst (λ i. IsNotAfter (get_or classes next d) (get_or classes i d)) (sym same)
-                (λ b. not_both_before _ _ b b),
+            rw same (λ b. not_both_before _ _ b b),
           ))
           (cases_lt m next);
     }
@@ -176,21 +168,16 @@ module _ {problem : Problem} {answer : Answer} {stage n : ℕ} {classes : List C
             λ b.
                 let mine = at_next (λ c. IsBefore (column_place (first_column c))
                 (column_place (first_column first))) d before in
-                let best_is : first ≡ get_or classes best d = f ∙ get_or_default classes best first d some in
-                let mine : IsBefore (column_place (first_column (get_or classes next d)))
-                (column_place (first_column (get_or classes best d))) =
+                let best_is = f ∙ get_or_default _ _ _ d some in
+                let mine =
                 subst (λ c. IsBefore (column_place (first_column (get_or classes next d)))
                 (column_place (first_column c))) best_is mine in
-                ⊎_elim (λ x. later.1 x) (λ x. not_both_before _ _ x mine)
-                (before_or (column_place (first_column (get_or classes m d)))
-                (column_place (first_column (get_or classes best d)))
-                (column_place (first_column (get_or classes next d))) b),
+                ⊎_elim (λ x. later.1 x) (λ x. not_both_before _ _ x mine) (before_or _ _ _ b),
           )) (so_far.others m d below))
           (λ above. let same : m ≡ next = omega arith in
           inr (
             inside,
-            subst (λ i. IsNotAfter (get_or classes next d) (get_or classes i d)) (sym same)
-                (λ b. not_both_before _ _ b b),
+            rw same (λ b. not_both_before _ _ b b),
           ))
           (cases_lt m next);
     }
@@ -204,12 +191,11 @@ module _ {problem : Problem} {answer : Answer} {stage n : ℕ} {classes : List C
       wrong = so_far.wrong;
       others = λ m d l. ⊎_elim (λ below. so_far.others m d below)
           (λ above. let same : next ≡ m = omega arith in
-          let best_is : first ≡ get_or classes best d = f ∙ get_or_default classes best first d some in
+          let best_is = f ∙ get_or_default _ _ _ d some in
           inr (
             some,
             subst (λ i. IsNotAfter (get_or classes best d) (get_or classes i d)) same
-                (at_next (IsNotAfter (get_or classes best d)) d
-                (subst (λ c. IsNotAfter c class) best_is later)),
+                (at_next (IsNotAfter (get_or classes best d)) d (rw best_is at later)),
           ))
           (cases_lt m next);
     }
@@ -220,21 +206,17 @@ module _ {problem : Problem} {answer : Answer} {stage n : ℕ} {classes : List C
       (kind_of_bits problem stage node.kind) column → IsTrue (some_has classes column)) where
     -- a wrong move is on a column of some class
     of_wrong : (column : List Sym) → IsWrongMove problem answer stage n column → IsTrue (some_has classes column)
-    of_wrong column (inl w) = held column
-        (subst (λ (x : Node). IsKeptBelow problem answer.stages.items stage (kind_of_bits problem stage x.kind) column)
-        (one_node answer stage n w.1.node node w.1.is is) w.1.kept)
-    of_wrong column (inr w) = held column
-        (subst (λ (x : Node). IsKeptBelow problem answer.stages.items stage (kind_of_bits problem stage x.kind) column)
-        (one_node answer stage n w.1.1.node node w.1.1.is is) w.1.1.kept)
+    of_wrong column (inl w) = held column (rw (one_node answer stage n w.1.node node w.1.is is) at w.1.kept)
+    of_wrong column (inr w) = held column (rw (one_node answer stage n w.1.1.node node w.1.1.is is) at w.1.1.kept)
 
     -- none is chosen, so nothing is wrong
     pub right_where_no_best : best ≡ length classes → IsRightPart problem answer stage n 1
-    right_where_no_best none rest w = by classes refl
+    right_where_no_best none rest w = by _ refl
       where
         by : (cs : List Class) → cs ≡ classes → ⊥
-        by [] e = false≢true (ap (λ xs. some_has xs w.0) e ∙ of_wrong w.0 w.1.0)
+        by [] e = false≢true (ap (λ xs. some_has xs w.0) e ∙ of_wrong _ w.1.0)
         by (d ∷ cs) e =
-            let i = some_index classes w.0 d (of_wrong w.0 w.1.0) in
+            let i = some_index _ _ d (of_wrong _ w.1.0) in
             ⊎_elim (λ right. right w.0 i.1.1 w.1.0) (λ later. absurd (omega (arith, later.0, none)))
             (least.others i.0 d (omega (arith, i.1.0, all)))
 
@@ -244,8 +226,8 @@ module _ {problem : Problem} {answer : Answer} {stage n : ℕ} {classes : List C
         → IsMoveFault problem answer stage n class fault → IsFirstInNode problem answer stage n fault
     first_move class fault some e filled potential faulty = record {
       place = 1 ∷ column_place (first_column class);
-      is = (faulty (first_column class) (has-first_column class filled)).1;
-      first = none_before (InNode problem answer stage n) 1 (column_place (first_column class)) lower here;
+      is = (faulty (first_column class) (has-first_column _ filled)).1;
+      first = none_before _ 1 _ lower here;
     }
       where
         lower : (m : ℕ) → m < 1 → (rest : List ℕ) → InNode problem answer stage n m rest → ⊥
@@ -255,17 +237,14 @@ module _ {problem : Problem} {answer : Answer} {stage n : ℕ} {classes : List C
         here : (rest : List ℕ) → InNode problem answer stage n 1 rest
             → IsBefore rest (column_place (first_column class)) → ⊥
         here rest w b =
-            let column : List Sym = w.0 in
-            let i = some_index classes column class (of_wrong column w.1.0) in
-            let other : Class = get_or classes i.0 class in
+            let column = w.0 in
+            let i = some_index _ _ _ (of_wrong _ w.1.0) in
+            let other = get_or classes i.0 class in
             let before : IsBefore (column_place column) (column_place (first_column class)) =
-            subst (λ q. IsBefore q (column_place (first_column class))) w.1.1 b in
-            ⊎_elim (λ right. right column i.1.1 w.1.0)
-            (λ later. ⊎_elim
-            (λ x. not_after_is (first_column other) column (first_column_least other column i.1.1) x)
-            (λ x. subst (λ c. IsNotAfter c other) (sym e) later.1 x)
-            (before_or (column_place column) (column_place (first_column other))
-            (column_place (first_column class)) before))
+            rw w.1.1 at b in
+            ⊎_elim (λ right. right column i.1.1 w.1.0) (λ later. ⊎_elim
+            (λ x. not_after_is _ _ (first_column_least _ _ i.1.1) x)
+            (λ x. subst (λ c. IsNotAfter c other) (sym e) later.1 x) (before_or _ _ _ before))
             (least.others i.0 class (omega (arith, i.1.0, all)))
 
 -- a node is right where its parts are
@@ -282,8 +261,8 @@ pub never_none : {problem : Problem} {answer : Answer} {stage n : ℕ} {classes 
     → {A : Type 0} → A
 never_none {problem} {answer} {stage} {n} least class some e filled right =
     let wrong : AreWrongOn problem answer stage n class =
-    subst (AreWrongOn problem answer stage n) (sym e) (least.wrong class some) in
-    let held = has-first_column class filled in
+    rw e (least.wrong class some) in
+    let held = has-first_column _ filled in
     absurd (right (first_column class) held (wrong (first_column class) held))
 
 -- ---- the pieces that are kept
@@ -303,16 +282,14 @@ pub piece_at : {problem : Problem} {stages : List Stage} {stage below : ℕ} {k 
 piece_at {problem} {stage = stage} {k = k} {pieces} kept n piece inside is =
     let within : n < length (kept_classes pieces) =
     omega (arith, inside, length-map pieces (λ (p : KeptPiece). p.class)) in
-    let class : piece.class ≡ get_or (kept_classes pieces) n piece.class = ap (λ (p : KeptPiece). p.class) is
-    ∙ sym (get_or-map (λ (p : KeptPiece). p.class) pieces n piece piece.class inside) in
+    let class = ap (λ (p : KeptPiece). p.class) is ∙ sym (get_or-map _ _ n _ _ inside) in
     record {
       within = within;
       class = class;
-      filled = subst (λ class. IsTrue (is_filled class)) (sym class) (kept.pieces.filled n piece.class within);
+      filled = rw class (kept.pieces.filled n piece.class within);
       keeps = λ column h. (kept.columns column).0
-          (list_any_at (λ class. has class column) (kept_classes pieces) n piece.class within
-          (ap (λ class. has class column) (sym class) ∙ h));
-      told = subst (IsKeptPiece problem stage k) (sym is) (kept.each n piece inside);
+          (list_any_at _ _ n _ within (ap (λ class. has class column) (sym class) ∙ h));
+      told = rw is (kept.each n piece inside);
     }
 
 -- a piece that is chosen is one of the pieces

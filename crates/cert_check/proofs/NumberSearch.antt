@@ -21,14 +21,12 @@ module _ {X : Type 0} (key : X → ℕ) (x : ℕ) where
 
   module _ (xs : List X) (sorted : IsStrictlySortedBy nat_cmp (map key xs)) where
     rises : IsNonDecreasingBy (λ y. ordering_index (nat_cmp (key y) x)) xs
-    rises i j d h l = index_rises (key (get_or xs i d)) (key (get_or xs j d)) x
-        (⊎_elim
-        (λ below. omega (
-          arith,
-          get_or-map key xs i d x (omega arith),
-          get_or-map key xs j d x l,
-          below_from_sorted (map key xs) i j x sorted below (omega (arith, l, length-map xs key)),
-        ))
+    rises i j d h l = index_rises _ (key (get_or xs j d)) x (⊎_elim (λ below. omega (
+      arith,
+      get_or-map key xs i d x (omega arith),
+      get_or-map key xs j d x l,
+      below_from_sorted _ i j x sorted below (omega (arith, l, length-map xs key)),
+    ))
         (λ above. let is : i ≡ j = omega arith in omega (arith, ap (λ n. key (get_or xs n d)) is))
         (cases_lt i j))
 
@@ -40,10 +38,8 @@ module _ {X : Type 0} (key : X → ℕ) (x : ℕ) where
       λ h.
           let p = parted rises in
           let l : h.0 < length xs = omega (arith, h.1, length-map xs key) in
-          absurd (⊎_elim
-          (λ before. not_there xs h.0 l
+          absurd (⊎_elim (λ before. not_there xs _ l
           (λ d e. omega (arith, ranked _ x _ (sym (p.0 h.0 d (omega arith) before)), e)) h.2)
-          (λ after. not_there xs h.0 l
-          (λ d e. omega (arith, ranked _ x _ (sym (p.1 h.0 d after l)), e)) h.2)
+          (λ after. not_there xs _ l (λ d e. omega (arith, ranked _ x _ (sym (p.1 h.0 d after l)), e)) h.2)
           (cases_lt h.0 i)),
     )

@@ -1,7 +1,7 @@
 -- Two faults that come first are one.
 use Rattle.std.proofs.Common.{◌≡◌, ℕ, zero, suc, ◌+◌, ◌<◌, ◌⊎◌, Bool, IsTrue, List, [], ◌∷◌, length, get_or}
 use Rattle.std.proofs.Common.{slice_get, Some, None, Option, refl, sym, ap, ap₂, ◌∙◌, subst, arith, inl, inr}
-use Rattle.std.proofs.{Common.Contains, lemmas.Bool.{cases_eq, cases_order}, lemmas.Option.slice_get-get_or}
+use Rattle.std.proofs.lemmas.Bool.{cases_eq, cases_order}
 use Rattle.std.specs.List.Sorted.{IsStrictlySortedBy}
 use Rattle.tier_core.specs.{declared.sym.Sym.Sym, declared.kind.Kind.Kind, Classes.has}
 use Rattle.tier_core.specs.{Kinds.{PrefixKind, kind_order}, Symbols.rank}
@@ -9,7 +9,7 @@ use Rattle.tier_core.proofs.SetLemmas.{rank_same}
 use Rattle.violation.specs.{Moves.{next_kind, cost_of}, Prefixes.kind_of_bits, Problems.{Problem, last_stage}}
 use Rattle.answer_text.specs.{declared.stage.Node.Node, declared.automaton.ArcLine.ArcLine}
 use Rattle.answer_text.specs.{declared.automaton.StateLine.StateLine, declared.answer.Answer.Answer}
-use Rattle.answer_text.specs.{Right.{nodes_at, kinds_at}, Certified.{Lists, AreStatesInOrder}}
+use Rattle.answer_text.specs.{Right.{nodes_at, kinds_at}, Certified.{AreStatesInOrder}}
 use Rattle.check_laws.proofs.{Leading.one_state, Listing.{one_potential, one_number, one_kind}}
 use Rattle.cert_check.specs.{declared.fault.Fault.Fault, declared.fault.Fault.TheVariants.{FormWrong, StageMissing}}
 use Rattle.cert_check.specs.declared.fault.Fault.TheVariants.{ExampleWrong, CountsDiffer, NodeWrong, StartMissing}
@@ -18,9 +18,10 @@ use Rattle.cert_check.specs.declared.fault.Fault.TheVariants.{StateMissing, Fina
 use Rattle.cert_check.specs.Places.{IsBefore, column_place, at_node, at_move, at_twice, at_arcs}
 use Rattle.cert_check.specs.Faults.{LacksStage, HasWrongCount, HasNode, HasWrongNode, HasFinalPotential}
 use Rattle.cert_check.specs.Faults.{IsNotClosed, HasHighPotential, HasWrongStart, HasState, LacksTarget}
-use Rattle.cert_check.specs.Faults.{HasWrongMark, HasTwice, IsListedTarget, IsKeptTarget, HasWrongArcs, TellsKind}
+use Rattle.cert_check.specs.Faults.{HasWrongMark, HasTwice, IsListedTarget, IsKeptTarget, HasWrongArcs}
 use Rattle.cert_check.specs.FirstFaults.{IsFault, IsFirstFault}
-use Rattle.cert_check.proofs.{Decisions.so_unless, Faultless.some_same, Ascending.ascends_unless, KindMasks.same_told}
+use Rattle.cert_check.proofs.{ArcLists.one_target, Decisions.so_unless, Faultless.some_same}
+use Rattle.cert_check.proofs.{Ascending.ascends_unless, KindMasks.same_told}
 
 -- ---- places are in one order
 
@@ -109,8 +110,7 @@ AtPlace problem answer (suc (suc (suc (suc (suc (suc n))))) ∷ state ∷ rest) 
 
 module _ (problem : Problem) (answer : Answer) where
   at_place : (fault : Fault) (place : List ℕ) → IsFault problem answer fault place → AtPlace problem answer place fault
-  at_place fault place h = subst (λ p. AtPlace problem answer p fault) (sym (own fault place h).1.0)
-      (own fault place h).1.1
+  at_place fault place h = rw ((own fault place h).1.0) (own _ _ h).1.1
     where
       own : (f : Fault) (p : List ℕ) → IsFault problem answer f p
           → (q : List ℕ) × ((p ≡ q) × AtPlace problem answer q f)
@@ -133,7 +133,7 @@ module _ (problem : Problem) (answer : Answer) where
       )
       own (StartPotential stage listed count) p h =
           (4 ∷ stage ∷ 3 ∷ [], (h.1, (listed, (count, (refl, h.0)))))
-      own (StateMissing state target) p (inl h) = (5 ∷ [], (h.3, both state target h.0 h.1))
+      own (StateMissing state target) p (inl h) = (5 ∷ [], (h.3, both _ _ h.0 h.1))
         where
           both : (m n : ℕ) → m ≡ 0 → n ≡ 0 → StateMissing m n ≡ StateMissing 0 0
           both m n e f = ap₂ (λ x y. StateMissing x y) e f
@@ -169,13 +169,13 @@ module _ (problem : Problem) (answer : Answer) where
 
   one_final : (stage n listed other : ℕ) → HasFinalPotential problem answer stage n listed
       → HasFinalPotential problem answer stage n other → listed ≡ other
-  one_final stage n listed other a b = a.listed_is
-      ∙ ap (λ (x : Node). x.potential) (one_node stage n a.node b.node a.is b.is) ∙ sym b.listed_is
+  one_final stage n listed other a b = a.listed_is ∙ ap (λ (x : Node). x.potential) (one_node _ n _ _ a.is b.is) ∙ sym
+      b.listed_is
 
   one_start : (stage listed count other more : ℕ) → HasWrongStart answer stage listed count
       → HasWrongStart answer stage other more → (listed ≡ other) × (count ≡ more)
   one_start stage listed count other more a b = (
-    a.listed_is ∙ ap (λ (x : Node). x.potential) (one_node stage 0 a.node b.node a.is b.is) ∙ sym b.listed_is,
+    a.listed_is ∙ ap (λ (x : Node). x.potential) (one_node _ 0 _ _ a.is b.is) ∙ sym b.listed_is,
     a.count_is ∙ sym b.count_is,
   )
 
@@ -186,23 +186,18 @@ module _ (problem : Problem) (answer : Answer) where
 
     one_missing : (kind other : Kind) → IsNotClosed problem answer stage n column kind
         → IsNotClosed problem answer stage n column other → kind ≡ other
-    one_missing kind other a b = same_told problem stage kind other (next b.node)
-        (subst (λ x. TellsKind problem stage kind (next x)) (one_node stage n a.node b.node a.is b.is) a.leads) b.leads
+    one_missing kind other a b = same_told _ _ _ _ _ (rw (one_node stage n a.node b.node a.is b.is) at a.leads) b.leads
 
     not_both : (kind : Kind) (listed allowed : ℕ) → IsNotClosed problem answer stage n column kind
         → HasHighPotential problem answer stage n column listed allowed → ⊥
-    not_both kind listed allowed a b = a.unlisted b.next
-        (subst (λ x. Lists problem answer.stages.items stage (next x) b.next)
-        (one_node stage n b.node a.node b.is a.is) b.leads)
+    not_both kind listed allowed a b = a.unlisted b.next (rw (one_node stage n b.node a.node b.is a.is) at b.leads)
 
     one_potential_fault : ((m : ℕ) → HasWrongNode problem answer stage m → ⊥) → (listed allowed other more : ℕ)
         → HasHighPotential problem answer stage n column listed allowed
         → HasHighPotential problem answer stage n column other more → (listed ≡ other) × (allowed ≡ more)
     one_potential_fault right listed allowed other more a b =
-        let same : a.node ≡ b.node = one_node stage n a.node b.node a.is b.is in
-        let nexts : a.next ≡ b.next = one_potential problem stage answer.stages.items
-        (ascends_unless problem answer stage a.is.within right) (next b.node) a.next b.next
-        (subst (λ x. Lists problem answer.stages.items stage (next x) a.next) same a.leads) b.leads in (
+        let same = one_node _ n _ _ a.is b.is in
+        let nexts = one_potential _ _ _ (ascends_unless _ _ _ a.is.within right) _ _ _ (rw same at a.leads) b.leads in (
           a.listed_is ∙ ap (λ (x : Node). x.potential) same ∙ sym b.listed_is,
           a.allowed_is
               ∙ ap₂ (λ (x : Node) (q : ℕ). cost_of problem stage (kind_of_bits problem stage x.kind) column + q)
@@ -211,12 +206,11 @@ module _ (problem : Problem) (answer : Answer) where
 
     one_move : ((m : ℕ) → HasWrongNode problem answer stage m → ⊥) → (f g : Fault)
         → IsMoveFault problem answer stage n column f → IsMoveFault problem answer stage n column g → f ≡ g
-    one_move right f g (inl a) (inl b) = a.1.0
-        ∙ ap (λ k. NotClosed stage n k) (one_missing a.0 b.0 a.1.1 b.1.1) ∙ sym b.1.0
-    one_move right f g (inl a) (inr b) = absurd (not_both a.0 b.0 b.1.0 a.1.1 b.1.1.1)
-    one_move right f g (inr a) (inl b) = absurd (not_both b.0 a.0 a.1.0 b.1.1 a.1.1.1)
+    one_move right f g (inl a) (inl b) = a.1.0 ∙ ap (λ k. NotClosed stage n k) (one_missing _ _ a.1.1 b.1.1) ∙ sym b.1.0
+    one_move right f g (inl a) (inr b) = absurd (not_both _ _ _ a.1.1 b.1.1.1)
+    one_move right f g (inr a) (inl b) = absurd (not_both _ _ _ b.1.1 a.1.1.1)
     one_move right f g (inr a) (inr b) =
-        let same = one_potential_fault right a.0 a.1.0 b.0 b.1.0 a.1.1.1 b.1.1.1 in
+        let same = one_potential_fault right _ _ _ _ a.1.1.1 b.1.1.1 in
         a.1.1.0 ∙ ap₂ (λ x y. Potential stage n x y) same.0 same.1 ∙ sym b.1.1.0
 
   one_in_node : (stage n : ℕ) → ((m : ℕ) → HasWrongNode problem answer stage m → ⊥) → (rest : List ℕ) (f g : Fault)
@@ -225,8 +219,7 @@ module _ (problem : Problem) (answer : Answer) where
   one_in_node stage n right (zero ∷ rest) f g a b = a.1.0
       ∙ ap (λ x. FinalPotential stage n x) (one_final stage n a.0 b.0 a.1.1 b.1.1) ∙ sym b.1.0
   one_in_node stage n right (suc m ∷ rest) f g a b = one_move stage n b.1.0 right f g
-      (subst (λ c. IsMoveFault problem answer stage n c f)
-      (same_column a.1.0 b.1.0 (sym a.1.1.0 ∙ b.1.1.0)) a.1.1.1) b.1.1.1
+      (rw (same_column a.1.0 b.1.0 (sym a.1.1.0 ∙ b.1.1.0)) at a.1.1.1) b.1.1.1
 
   same_head : (m n : ℕ) (rest : List ℕ) → rest ≡ m ∷ [] → rest ≡ n ∷ [] → m ≡ n
   same_head m n rest e f = ap (λ xs. get_or xs 0 0) (sym e ∙ f)
@@ -235,34 +228,36 @@ module _ (problem : Problem) (answer : Answer) where
       → ((m : ℕ) → HasWrongNode problem answer stage m → IsBefore (0 ∷ m ∷ []) rest → ⊥)
       → AtStage problem answer stage rest f → AtStage problem answer stage rest g → f ≡ g
   one_in_stage stage [] f g none a b = absurd a
-  one_in_stage stage (zero ∷ rest) f g none a b = a.1.1.0
-      ∙ ap (λ n. NodeWrong stage n) (same_head a.0 b.0 rest a.1.0 b.1.0) ∙ sym b.1.1.0
+  one_in_stage stage (zero ∷ rest) f g none a b = a.1.1.0 ∙ ap (λ n. NodeWrong stage n) (same_head _ _ _ a.1.0 b.1.0) ∙
+      sym b.1.1.0
   one_in_stage stage (suc zero ∷ rest) f g none a b = a ∙ sym b
   one_in_stage stage (suc (suc zero) ∷ []) f g none a b = absurd a
   one_in_stage stage (suc (suc zero) ∷ n ∷ rest) f g none a b =
       one_in_node stage n (λ m w. none m w (inl (omega arith))) rest f g a b
   one_in_stage stage (suc (suc (suc n)) ∷ rest) f g none a b =
-      let same = one_start stage a.0 a.1.0 b.0 b.1.0 a.1.1.1 b.1.1.1 in
+      let same = one_start _ _ _ _ _ a.1.1.1 b.1.1.1 in
       a.1.1.0 ∙ ap₂ (λ x y. StartPotential stage x y) same.0 same.1 ∙ sym b.1.1.0
+
+  abbrev LastAscends : Type 0
+  LastAscends = IsStrictlySortedBy kind_order
+      (kinds_at problem (last_stage problem) (nodes_at answer.stages.items (last_stage problem)))
 
   -- of a state
   module _ (states : AreStatesInOrder problem.tiers.width answer.automaton.states.items) where
     one_line : (n : ℕ) (a b : StateLine) → HasState answer n a → HasState answer n b → a ≡ b
-    one_line n a b h k = one_state answer.automaton.states.items states.ascending a b h.listed k.listed
-        (h.numbered ∙ sym k.numbered)
+    one_line n a b h k = one_state _ states.ascending a b h.listed k.listed (h.numbered ∙ sym k.numbered)
 
     one_lacking : (state arc target other : ℕ) → LacksTarget answer state arc target
         → LacksTarget answer state arc other → target ≡ other
     one_lacking state arc target other a b =
-        let line : a.line ≡ b.line = one_line state a.line b.line a.is b.is in
-        let same : a.arc_line ≡ b.arc_line = some_same (sym a.numbered
-        ∙ ap (λ (x : StateLine). slice_get x.arcs.items arc) line ∙ b.numbered) in
+        let line = one_line _ _ _ a.is b.is in
+        let same = some_same (sym a.numbered ∙ ap (λ (x : StateLine). slice_get x.arcs.items arc) line ∙ b.numbered) in
         a.target_is ∙ ap (λ (x : ArcLine). x.target) same ∙ sym b.target_is
 
     one_mark : (state : ℕ) (listed other : Bool) → HasWrongMark problem answer state listed
         → HasWrongMark problem answer state other → listed ≡ other
-    one_mark state listed other a b = a.listed_is
-        ∙ ap (λ (x : StateLine). x.accepting) (one_line state a.line b.line a.is b.is) ∙ sym b.listed_is
+    one_mark state listed other a b = a.listed_is ∙ ap (λ (x : StateLine). x.accepting) (one_line _ _ _ a.is b.is) ∙ sym
+        b.listed_is
 
     module _ (state : ℕ) (column : List Sym) (line : StateLine) (is : HasState answer state line)
         (once : HasTwice answer state column → ⊥) where
@@ -282,69 +277,50 @@ module _ (problem : Problem) (answer : Answer) where
         in_second = k;
       })
 
-      numbered : (arc : ArcLine) (h : Contains line.arcs.items arc) → slice_get line.arcs.items h.0 ≡ Some arc
-      numbered arc h = slice_get-get_or line.arcs.items h.0 arc h.1 ∙ ap (λ (x : ArcLine). Some x) h.2
-
       one_listed : (m n : Option ℕ) → IsListedTarget line.arcs.items column m
           → IsListedTarget line.arcs.items column n → m ≡ n
       one_listed None None a b = refl
       one_listed None (Some n) a b = absurd (a b.0 b.1.0 b.1.1)
       one_listed (Some m) None a b = absurd (b a.0 a.1.0 a.1.1)
-      one_listed (Some m) (Some n) a b = ap (λ (x : ℕ). Some x) (elim (cases_order a.1.0.0 b.1.0.0) [
-        | inl same ↦ sym a.1.2 ∙ ap (λ (x : ArcLine). x.target)
-            (some_same (sym (numbered a.0 a.1.0) ∙ ap (slice_get line.arcs.items) same ∙ numbered b.0 b.1.0)) ∙ b.1.2
-        | inr other ↦ elim other [
-          | inl less ↦ absurd (twice a.1.0.0 b.1.0.0 a.0 b.0 less (numbered a.0 a.1.0) (numbered b.0 b.1.0)
-              a.1.1 b.1.1)
-          | inr more ↦ absurd (twice b.1.0.0 a.1.0.0 b.0 a.0 more (numbered b.0 b.1.0) (numbered a.0 a.1.0)
-              b.1.1 a.1.1)
-        ]
-      ])
+      one_listed (Some m) (Some n) a b = ap (λ (x : ℕ). Some x) (one_target line.arcs.items column twice m n a b)
 
-    one_kept : IsStrictlySortedBy kind_order
-        (kinds_at problem (last_stage problem) (nodes_at answer.stages.items (last_stage problem)))
-        → (k : PrefixKind) (column : List Sym) (m n : Option ℕ) → IsKeptTarget problem answer k column m
+    one_kept : LastAscends → (k : PrefixKind) (column : List Sym) (m n : Option ℕ)
+        → IsKeptTarget problem answer k column m
         → IsKeptTarget problem answer k column n → m ≡ n
     one_kept ascending k column None None a b = refl
     one_kept ascending k column None (Some n) a b = absurd (a b.0)
     one_kept ascending k column (Some m) None a b = absurd (b a.0)
-    one_kept ascending k column (Some m) (Some n) a b = ap (λ (x : ℕ). Some x)
-        (one_number problem (nodes_at answer.stages.items (last_stage problem)) ascending
-        (next_kind problem (last_stage problem) k column) m n a.1 b.1)
+    one_kept ascending k column (Some m) (Some n) a b = ap (λ (x : ℕ). Some x) (one_number _ _ ascending _ m n a.1 b.1)
 
-    one_arcs : IsStrictlySortedBy kind_order
-        (kinds_at problem (last_stage problem) (nodes_at answer.stages.items (last_stage problem)))
-        → (state : ℕ) (column : List Sym) → (HasTwice answer state column → ⊥)
+    one_arcs : LastAscends → (state : ℕ) (column : List Sym) → (HasTwice answer state column → ⊥)
         → (listed other kept more : Option ℕ) → HasWrongArcs problem answer state column listed kept
         → HasWrongArcs problem answer state column other more → (listed ≡ other) × (kept ≡ more)
     one_arcs ascending state column once listed other kept more a b =
-        let line : a.line ≡ b.line = one_line state a.line b.line a.is b.is in
-        let kind : a.kind ≡ b.kind = one_kind problem (nodes_at answer.stages.items (last_stage problem)) a.kind
-        b.kind state a.of_kind b.of_kind in (
+        let line = one_line state a.line b.line a.is b.is in
+        let kind = one_kind problem (nodes_at answer.stages.items (last_stage problem)) a.kind b.kind state a.of_kind
+        b.of_kind in (
           one_listed state column b.line b.is once listed other
               (subst (λ (x : StateLine). IsListedTarget x.arcs.items column listed) line a.listed_is) b.listed_is,
           one_kept ascending b.kind column kept more
               (subst (λ x. IsKeptTarget problem answer x column kept) kind a.kept_is) b.kept_is,
         )
 
-    one_in_state : (state : ℕ) (rest : List ℕ) (f g : Fault) → IsStrictlySortedBy kind_order
-        (kinds_at problem (last_stage problem) (nodes_at answer.stages.items (last_stage problem)))
+    one_in_state : (state : ℕ) (rest : List ℕ) (f g : Fault) → LastAscends
         → ((column : List Sym) → HasTwice answer state column → IsBefore (2 ∷ column_place column) rest → ⊥)
         → AtState problem answer state rest f → AtState problem answer state rest g → f ≡ g
     one_in_state state [] f g ascending none a b = absurd a
     one_in_state state (zero ∷ rest) f g ascending none a b =
-        let same : a.0 ≡ b.0 = same_head a.0 b.0 rest a.1.1.0 b.1.1.0 in
-        a.1.1.1.0 ∙ ap (λ n. StateMissing state n) (one_lacking state b.0 a.1.0 b.1.0
-        (subst (λ n. LacksTarget answer state n a.1.0) same a.1.1.1.1) b.1.1.1.1) ∙ sym b.1.1.1.0
-    one_in_state state (suc zero ∷ rest) f g ascending none a b = a.1.0
-        ∙ ap (λ x. FinalsDiffer state x) (one_mark state a.0 b.0 a.1.1 b.1.1) ∙ sym b.1.0
-    one_in_state state (suc (suc zero) ∷ rest) f g ascending none a b = a.1.1
-        ∙ ap (λ c. ArcsTwice state c) (same_column a.0 b.0 (sym a.1.0 ∙ b.1.0)) ∙ sym b.1.1
+        let same = same_head _ _ _ a.1.1.0 b.1.1.0 in
+        a.1.1.1.0 ∙ ap (λ n. StateMissing state n) (one_lacking _ _ _ _ (rw same at a.1.1.1.1) b.1.1.1.1) ∙ sym
+        b.1.1.1.0
+    one_in_state state (suc zero ∷ rest) f g ascending none a b = a.1.0 ∙ ap (λ x. FinalsDiffer state x)
+        (one_mark _ _ _ a.1.1 b.1.1) ∙ sym b.1.0
+    one_in_state state (suc (suc zero) ∷ rest) f g ascending none a b = a.1.1 ∙ ap (λ c. ArcsTwice state c)
+        (same_column _ _ (sym a.1.0 ∙ b.1.0)) ∙ sym b.1.1
     one_in_state state (suc (suc (suc n)) ∷ rest) f g ascending none a b =
-        let column : a.0 ≡ b.0 = same_column a.0 b.0 (sym a.1.0 ∙ b.1.0) in
-        let same = one_arcs ascending state b.0 (λ w. none b.0 w (inl (omega arith)))
-        a.1.1.0 b.1.1.0 a.1.1.1.0 b.1.1.1.0
-        (subst (λ c. HasWrongArcs problem answer state c a.1.1.0 a.1.1.1.0) column a.1.1.1.1.1) b.1.1.1.1.1 in
+        let column = same_column _ _ (sym a.1.0 ∙ b.1.0) in
+        let same = one_arcs ascending _ _ (λ w. none b.0 w (inl (omega arith))) _ _ _ _ (rw column at a.1.1.1.1.1)
+        b.1.1.1.1.1 in
         a.1.1.1.1.0 ∙ ap₂ (λ c x. ArcsDiffer state c x a.1.1.1.0) column same.0
         ∙ ap (λ x. ArcsDiffer state b.0 b.1.1.0 x) same.1 ∙ sym b.1.1.1.1.0
 
@@ -358,15 +334,12 @@ module _ (problem : Problem) (answer : Answer) where
     later (suc n) ms ns b = inl (omega arith)
 
     -- the last stage ascends where no node is wrong and no stage is missing
-    last_ascends : (n : ℕ) (rest : List ℕ) → IsNothingBefore (suc (suc (suc (suc (suc (suc n))))) ∷ rest)
-        → IsStrictlySortedBy kind_order
-        (kinds_at problem (last_stage problem) (nodes_at answer.stages.items (last_stage problem)))
+    last_ascends : (n : ℕ) (rest : List ℕ) → IsNothingBefore (suc (suc (suc (suc (suc (suc n))))) ∷ rest) → LastAscends
     last_ascends n rest none =
-        let count : length answer.stages.items ≡ last_stage problem + 1 = so_unless
-        (cases_eq (length answer.stages.items) (last_stage problem + 1))
-        (λ no. none (StageMissing (length answer.stages.items) (last_stage problem + 1)) (1 ∷ [])
+        let count = so_unless (cases_eq (length answer.stages.items) (last_stage problem + 1)) (λ no. none
+        (StageMissing (length answer.stages.items) (last_stage problem + 1)) (1 ∷ [])
         (record { wanted_is = refl; differs = no; listed_is = inl refl }, refl) (inl (omega arith))) in
-        ascends_unless problem answer (last_stage problem) (omega (arith, count))
+        ascends_unless _ _ (last_stage problem) (omega (arith, count))
         (λ m w. none (NodeWrong (last_stage problem) m) (at_node (last_stage problem) m) (w, refl) (inl (omega arith)))
 
     one_at : (place : List ℕ) (f g : Fault) → IsNothingBefore place → AtPlace problem answer place f
@@ -374,12 +347,12 @@ module _ (problem : Problem) (answer : Answer) where
     one_at [] f g none a b = absurd a
     one_at (zero ∷ rest) f g none a b = a ∙ sym b
     one_at (suc zero ∷ rest) f g none a b =
-        let same = one_lack a.0 b.0 a.1.0 b.1.0 a.1.1.1 b.1.1.1 in
+        let same = one_lack _ _ _ _ a.1.1.1 b.1.1.1 in
         a.1.1.0 ∙ ap₂ (λ x y. StageMissing x y) same.0 same.1 ∙ sym b.1.1.0
     one_at (suc (suc zero) ∷ rest) f g none a b = a ∙ sym b
     one_at (suc (suc (suc zero)) ∷ rest) f g none a b =
-        let head : a.0 ≡ b.0 = same_head a.0 b.0 rest a.1.1.1.0 b.1.1.1.0 in
-        let same = one_count b.0 a.1.0 a.1.1.0 b.1.0 b.1.1.0
+        let head = same_head _ _ _ a.1.1.1.0 b.1.1.1.0 in
+        let same = one_count _ _ a.1.1.0 b.1.0 b.1.1.0
         (subst (λ n. HasWrongCount problem answer n a.1.0 a.1.1.0) head a.1.1.1.1.1) b.1.1.1.1.1 in
         a.1.1.1.1.0 ∙ ap₂ (λ n x. CountsDiffer n x a.1.1.0) head same.0
         ∙ ap (λ x. CountsDiffer b.0 b.1.0 x) same.1 ∙ sym b.1.1.1.1.0
@@ -396,10 +369,9 @@ module _ (problem : Problem) (answer : Answer) where
 
     pub one_first : (fault other : Fault) → IsFirstFault problem answer fault → IsFirstFault problem answer other
         → fault ≡ other
-    one_first fault other a b = by (ordered a.place b.place)
+    one_first fault other a b = by (ordered _ _)
       where
         by : InOrder a.place b.place → fault ≡ other
-        by (inl e) = one_at b.place fault other b.first
-            (at_place fault b.place (subst (IsFault problem answer fault) e a.is)) (at_place other b.place b.is)
+        by (inl e) = one_at _ _ _ b.first (at_place _ _ (rw e at a.is)) (at_place _ _ b.is)
         by (inr (inl before)) = absurd (b.first fault a.place a.is before)
         by (inr (inr before)) = absurd (a.first other b.place b.is before)

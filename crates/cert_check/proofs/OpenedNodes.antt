@@ -1,5 +1,5 @@
 -- The bits of a node's open tiers.
-use Rattle.std.proofs.Common.{◌≡◌, ℕ, ◌^◌, ◌<◌, ◌≤◌, get_or, length, subst}
+use Rattle.std.proofs.Common.{ℕ, ◌^◌, ◌<◌, ◌≤◌, length, subst}
 use Rattle.std.proofs.lemmas.Option.{slice_get_within, get_or_from_slice_get}
 use Rattle.tier_core.specs.KindShapes.{free_count}
 use Rattle.violation.specs.Problems.{last_stage}
@@ -12,8 +12,7 @@ use Rattle.cert_check.proofs.Subjects.{fits_at, free_same}
 pub node_opened : (s : Subject) (stage : ℕ) → IsReady s → stage ≤ last_stage (problem_of s) → (n : ℕ) (node : Node)
     → HasNode s.answer.now stage n node → node.kind.opened < 2 ^ length (problem_of s).tiers.free
 node_opened s stage ready within n node h =
-    let fits = fits_at s ready stage within n node (slice_get_within (stage_nodes s stage) n node h.numbered) in
-    let here : get_or (stage_nodes s stage) n node ≡ node = get_or_from_slice_get
-    (stage_nodes s stage) n node node h.numbered in
-    subst (λ m. node.kind.opened < 2 ^ m) (free_same s ready stage within)
+    let fits = fits_at s ready _ within n _ (slice_get_within (stage_nodes s stage) n node h.numbered) in
+    let here = get_or_from_slice_get (stage_nodes s stage) n node node h.numbered in
+    rw (free_same s ready stage within) at
     (subst (λ (x : Node). x.kind.opened < 2 ^ free_count s.shape.now) here fits.opened)

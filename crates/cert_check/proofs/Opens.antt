@@ -7,7 +7,7 @@ use Rattle.tier_core.specs.{declared.sym.Sym.Sym, declared.tier.TierKind.TierKin
 use Rattle.tier_core.specs.declared.tier.TierKind.TheVariants.{Input}
 use Rattle.tier_core.specs.{Tiers.{is_input, is_free, kind_at, has_tier, numbers_from}, Kinds.open_tiers, Scan.opens}
 use Rattle.tier_core.specs.{Tables.tiers_of_table, Timelines.{tier_word, symbol, IsWellFormed}}
-use Rattle.tier_core.specs.{declared.sym.Sym.TheVariants.Outside, declared.kind.Kind.Kind}
+use Rattle.tier_core.specs.{declared.kind.Kind.Kind}
 use Rattle.tier_core.specs.{declared.constraint.Constraint.Constraint, declared.tier.TierTable.TierTable}
 use Rattle.tier_core.proofs.{WordLemmas.open_suc, WordForm.runs_from_well_formed}
 use Rattle.violation.specs.{Candidates.IsForm, Moves.{flag_of, form_opened, is_tier_open}}
@@ -34,7 +34,7 @@ inputs_in (k ∷ ks) zero l h = omega (
   ap {B = ℕ} (λ b. cond b 1 0) h,
 )
 inputs_in (k ∷ ks) (suc t) l h =
-    let rest : inputs_before ks t < length (filter is_input ks) = inputs_in ks t (omega arith) h in
+    let rest = inputs_in ks t (omega arith) h in
     omega (
       arith,
       rest,
@@ -43,7 +43,7 @@ inputs_in (k ∷ ks) (suc t) l h =
     )
 
 pub all_inputs : (kinds : List TierKind) → inputs_before kinds (length kinds) ≡ length (filter is_input kinds)
-all_inputs kinds = ap (λ ks. length (filter is_input ks)) (take_all (length kinds) kinds (omega arith))
+all_inputs kinds = ap (λ ks. length (filter is_input ks)) (take_all _ kinds (omega arith))
 
 -- ---- flags of the tiers that pass a test
 
@@ -55,8 +55,8 @@ number_count false n ns k ks e = e
 pub length-numbers : (test : TierKind → Bool) (n : ℕ) (kinds : List TierKind)
     → length (numbers_from test n kinds) ≡ length (filter test kinds)
 length-numbers test n [] = refl
-length-numbers test n (k ∷ ks) = number_count (test k) n (numbers_from test (suc n) ks) k (filter test ks)
-    (length-numbers test (suc n) ks)
+length-numbers test n (k ∷ ks) = number_count _ n (numbers_from test (suc n) ks) k (filter test ks)
+    (length-numbers test _ ks)
 
 none_twice : (b : Bool) → false ≡ cond b false false
 none_twice true = refl
@@ -66,7 +66,7 @@ none_twice false = refl
 flag_lower : (test : TierKind → Bool) (kinds : List TierKind) (n t : ℕ) (flags : List Bool) → t < n
     → flag_of (numbers_from test n kinds) flags t ≡ false
 flag_lower test [] n t flags l = refl
-flag_lower test (k ∷ ks) n t flags l = own (λ fs. flag_lower test ks (suc n) t fs (omega arith)) (test k) flags
+flag_lower test (k ∷ ks) n t flags l = own (λ fs. flag_lower _ ks _ t fs (omega arith)) _ _
   where
     other : (f : Bool) (fs : List Bool) → cond (n == t) f (flag_of (numbers_from test (suc n) ks) fs t)
         ≡ flag_of (numbers_from test (suc n) ks) fs t
@@ -83,31 +83,31 @@ pub flag_number : (test : TierKind → Bool) (kinds : List TierKind) (n t : ℕ)
     → flag_of (numbers_from test n kinds) flags (n + t)
     ≡ cond (test (kind_at kinds t)) (get_or flags (length (filter test (take t kinds))) false) false
 flag_number test [] n t flags l = absurd (omega arith)
-flag_number test (k ∷ ks) n zero flags l = own (test k) flags
+flag_number test (k ∷ ks) n zero flags l = own _ _
   where
     own : (b : Bool) (fs : List Bool) → flag_of (cond b (n ∷ []) [] ++ numbers_from test (suc n) ks) fs (n + 0)
         ≡ cond b (get_or fs 0 false) false
     own true [] = refl
     own true (f ∷ fs) = ap (λ b. cond b f (flag_of (numbers_from test (suc n) ks) fs (n + 0)))
-        (eq-eqb n (n + 0) (omega arith))
-    own false fs = flag_lower test ks (suc n) (n + 0) fs (omega arith)
+        (eq-eqb n _ (omega arith))
+    own false fs = flag_lower _ ks _ _ fs (omega arith)
 flag_number test (k ∷ ks) n (suc t) flags l =
-    own (λ fs. let e : n + suc t ≡ suc n + t = omega arith in ap (λ m. flag_of (numbers_from test (suc n) ks) fs m) e
-    ∙ flag_number test ks (suc n) t fs (omega arith)) (test k) flags
+    own (λ fs. let e : n + suc t ≡ suc n + t = omega arith in ap (λ m. flag_of (numbers_from test (suc n) ks) fs m) e ∙
+    flag_number test ks (suc n) t fs (omega arith)) _ flags
   where
     own : ((fs : List Bool) → flag_of (numbers_from test (suc n) ks) fs (n + suc t)
         ≡ cond (test (kind_at ks t)) (get_or fs (length (filter test (take t ks))) false) false)
         → (b : Bool) (fs : List Bool) → flag_of (cond b (n ∷ []) [] ++ numbers_from test (suc n) ks) fs (n + suc t)
         ≡ cond (test (kind_at ks t))
         (get_or fs (length (cond b (k ∷ filter test (take t ks)) (filter test (take t ks)))) false) false
-    own later true [] = none_twice (test (kind_at ks t))
+    own later true [] = none_twice _
     own later true (f ∷ fs) = ap (λ b. cond b f (flag_of (numbers_from test (suc n) ks) fs (n + suc t)))
         (ne_eqb n (n + suc t) (λ e. absurd (omega (arith, e)))) ∙ later fs
     own later false fs = later fs
 
 frees_before : (kinds : List TierKind) (t : ℕ) → t ≤ length kinds
     → length (filter is_free (take t kinds)) ≡ t - inputs_before kinds t
-frees_before kinds t l = let both = split kinds t l in omega (arith, both)
+frees_before kinds t l = let both = split _ t l in omega (arith, both)
   where
     counted : (b : Bool) (k : TierKind) (xs ys : List TierKind)
         → length (cond (not b) (k ∷ xs) xs) + length (cond b (k ∷ ys) ys) ≡ suc (length xs + length ys)
@@ -117,8 +117,7 @@ frees_before kinds t l = let both = split kinds t l in omega (arith, both)
     split : (ks : List TierKind) (n : ℕ) → n ≤ length ks → length (filter is_free (take n ks)) + inputs_before ks n ≡ n
     split ks zero h = refl
     split [] (suc n) h = absurd (omega arith)
-    split (k ∷ ks) (suc n) h = counted (is_input k) k (filter is_free (take n ks)) (filter is_input (take n ks))
-        ∙ ap (λ m. suc m) (split ks n (omega arith))
+    split (k ∷ ks) (suc n) h = counted _ k _ _ ∙ ap (λ m. suc m) (split ks n (omega arith))
 
 -- ---- the tiers of a grammar
 
@@ -133,11 +132,10 @@ form_open : (width : ℕ) (u : List (List Sym)) (place j : ℕ) → IsWellFormed
     → is_open (tier_word (take place u) j) ≡ is_open_before u place j
 form_open width u zero j form h l = refl
 form_open width u (suc p) j form h l =
-    let well = runs_from_well_formed (tier_word u j) (form.each_tier j h) in
-    let size : length (tier_word u j) ≡ length u = length-map u (λ (column : List Sym). symbol column j) in
-    ap is_open (take_word u (suc p) j) ∙ prefix_open (tier_word u j) (suc p) well (omega (arith, size, l))
-    ∙ open_suc false (tier_word u j) p (omega (arith, size, l))
-    ∙ ap opens (get_or-map (λ column. symbol column j) u p [] Outside (omega (arith, l)))
+    let well = runs_from_well_formed _ (form.each_tier j h) in
+    let size = length-map u (λ (column : List Sym). symbol column j) in
+    ap is_open (take_word u (suc p) j) ∙ prefix_open (tier_word u j) (suc p) well (omega (arith, size, l)) ∙ open_suc
+    false _ p (omega (arith, size, l)) ∙ ap opens (get_or-map _ u p [] _ (omega (arith, l)))
 
 cond_where : (b x y : Bool) → (b ≡ true → x ≡ y) → cond b x false ≡ cond b y false
 cond_where true x y h = h refl
@@ -147,10 +145,8 @@ free_in : (kinds : List TierKind) (t : ℕ) → t < length kinds → not (is_inp
     → t - inputs_before kinds t < length (filter is_free kinds)
 free_in [] t l h = absurd (omega arith)
 free_in (k ∷ ks) t l h =
-    let more : length (filter is_free (take (t + 1) (k ∷ ks)))
-    ≡ length (filter is_free (take t (k ∷ ks))) + cond
-    (is_free (kind_at (k ∷ ks) t)) 1 0 = length-filter_more is_free (k ∷ ks) t Input l in
-    let here : cond (is_free (kind_at (k ∷ ks) t)) 1 0 ≡ 1 = ap {B = ℕ} (λ b. cond b 1 0) h in
+    let more = length-filter_more is_free (k ∷ ks) t Input l in
+    let here = ap {B = ℕ} (λ b. cond b 1 0) h in
     omega (arith, more, here, frees_before (k ∷ ks) t (omega (arith, l)), frees_rise (k ∷ ks) (t + 1))
   where
     counted : (b : Bool) (x : TierKind) (xs ys : List TierKind) → length xs ≤ length ys
@@ -161,8 +157,7 @@ free_in (k ∷ ks) t l h =
     frees_rise : (xs : List TierKind) (n : ℕ) → length (filter is_free (take n xs)) ≤ length (filter is_free xs)
     frees_rise xs zero = omega arith
     frees_rise [] (suc n) = omega arith
-    frees_rise (x ∷ xs) (suc n) = counted (is_free x) x (filter is_free (take n xs)) (filter is_free xs)
-        (frees_rise xs n)
+    frees_rise (x ∷ xs) (suc n) = counted _ x _ _ (frees_rise xs n)
 
 module _ (table : TierTable) (constraints : List Constraint) (u : List (List Sym))
     (form : IsForm (tiers_of_table table) u) (stage : ℕ) (kind : Kind) (within : kind.place ≤ length u) where
@@ -189,11 +184,8 @@ module _ (table : TierTable) (constraints : List Constraint) (u : List (List Sym
         ∙ cond_where (is_input (kind_at kinds t)) (get_or inputs (inputs_before kinds t) false) first (λ h.
         let below : inputs_before kinds t < length (numbers_from is_input 0 kinds) = omega
         (arith, inputs_in kinds t l h, length-numbers is_input 0 kinds) in
-        get_or-map-range_with_len (λ j. is_open (tier_word (take kind.place u) j)) 0
-        (length (numbers_from is_input 0 kinds)) (inputs_before kinds t) (inputs_before kinds t) false below
-        (omega arith)
-        ∙ form_open (length (numbers_from is_input 0 kinds)) u kind.place
-        (inputs_before kinds t) form.well_formed below within)
+        get_or-map-range_with_len _ 0 _ _ _ false below (omega arith) ∙ form_open
+        (length (numbers_from is_input 0 kinds)) u kind.place (inputs_before kinds t) form.well_formed below within)
 
     free : flag_of (numbers_from is_free 0 kinds) frees t ≡ cond (not (is_input (kind_at kinds t))) second false
     free =
@@ -203,9 +195,8 @@ module _ (table : TierTable) (constraints : List Constraint) (u : List (List Sym
         (get_or frees (length (filter is_free (take t kinds))) false) second (λ h.
         let below : t - inputs_before kinds t < length (numbers_from is_free 0 kinds) = omega
         (arith, free_in kinds t l h, length-numbers is_free 0 kinds) in
-        ap (λ n. get_or frees n false) (frees_before kinds t (omega (arith, l)))
-        ∙ get_or-map-range_with_len (has_tier kind.opened) 0 (length (numbers_from is_free 0 kinds))
-        (t - inputs_before kinds t) (t - inputs_before kinds t) false below (omega arith))
+        ap (λ n. get_or frees n false) (frees_before kinds t (omega (arith, l))) ∙ get_or-map-range_with_len _ 0 _ _ _
+        false below (omega arith))
 
     -- a tier is open at a kind as it is told tier by tier
     pub open_told : is_tier_open (problem_from table constraints u)

@@ -9,7 +9,7 @@ use Rattle.violation.specs.{Moves.cut_kind, Prefixes.{kind_of, kind_of_bits}, Pr
 use Rattle.answer_text.specs.{declared.stage.Node.Node, Certified.IsPossibleKind}
 use Rattle.tier_core.proofs.KindTies.{kind_order_total}
 use Rattle.cert_check.specs.{declared.subject.Subject.Subject, declared.fault.Fault.TheVariants.NodeWrong}
-use Rattle.cert_check.specs.{Faults.{HasNode, IsInOrder, HasWrongNode}, Parts.{InStage, IsFirstInStage}}
+use Rattle.cert_check.specs.{Faults.{HasNode, IsInOrder, HasWrongNode}, Parts.{IsFirstInStage}}
 use Rattle.cert_check.specs.{Places.IsBefore, Subjects.{IsReady, AreFirstNodesInOrder, problem_of, stage_nodes}}
 use Rattle.cert_check.specs.Subjects.{stage_kinds, node_kind, AscendsAt}
 use Rattle.cert_check.proofs.{Faultless.node_kind as kind_of_node, Parts.none_before, Subjects.in_stages}
@@ -37,8 +37,8 @@ module _ (s : Subject) (stage : ℕ) where
   pub after_by : (n : ℕ) → n < length (stage_nodes s stage)
       → IsInOrder problem s.answer.now.stages.items stage n (node_kind s stage n)
       → 1 ≤ n → kind_order (node_kind s stage (n - 1)) (node_kind s stage n) ≡ Less
-  after_by n l o some = o.after (node_kind s stage (n - 1)) some
-      (slice_get-get_or (stage_kinds s stage) (n - 1) (kind_of problem stage []) (omega (arith, l, kind_count)))
+  after_by n l o some = o.after (node_kind s _ _) some
+      (slice_get-get_or _ (n - 1) (kind_of problem stage []) (omega (arith, l, kind_count)))
 
   -- nodes that all stand where they may ascend
   pub ascends_by : AreFirstNodesInOrder s stage (length (stage_nodes s stage)) → AscendsAt s stage
@@ -50,42 +50,38 @@ module _ (s : Subject) (stage : ℕ) where
   -- the kind of a node by its number
   pub numbered_is : (n : ℕ) (node : Node) → HasNode s.answer.now stage n node
       → kind_of_bits problem stage node.kind ≡ node_kind s stage n
-  numbered_is n node h = sym (get_or_from_slice_get (stage_kinds s stage) n (kind_of_bits problem stage node.kind)
-      (kind_of problem stage []) (kind_of_node problem s.answer.now stage n node h))
+  numbered_is n node h = sym (get_or_from_slice_get _ n _ _ (kind_of_node problem s.answer.now stage n node h))
 
   -- there is a node with each number
   pub node_there : IsReady s → stage ≤ last_stage problem → (n : ℕ) → n < length (stage_nodes s stage)
       → (node : Node) × HasNode s.answer.now stage n node
   node_there ready within n l =
-      let some = some_of (slice_get (stage_nodes s stage) n) (stage_nodes s stage) n l refl in
-      (some.0, record { within = in_stages s ready stage within; numbered = some.1 })
+      let some = some_of _ _ n l refl in
+      (some.0, record { within = in_stages s ready _ within; numbered = some.1 })
     where
       some_of : (o : Option Node) (nodes : List Node) (m : ℕ) → m < length nodes → slice_get nodes m ≡ o
           → (node : Node) × (slice_get nodes m ≡ Some node)
       some_of (Some node) nodes m h e = (node, e)
-      some_of None nodes m h e = absurd (none_there nodes m h e)
+      some_of None nodes m h e = absurd (none_there _ m h e)
 
   -- the first node that does not stand where it may
   pub first_wrong : IsReady s → stage ≤ last_stage problem → (n : ℕ) → n < length (stage_nodes s stage)
       → (IsInOrder problem s.answer.now.stages.items stage n (node_kind s stage n) → ⊥)
       → AreFirstNodesInOrder s stage n → IsFirstInStage problem s.answer.now stage (NodeWrong stage n)
-  first_wrong ready within n l wrong before = let there :
-      (node : Node) × HasNode s.answer.now stage n node = node_there ready within n l in record {
-        place = 0 ∷ n ∷ [];
-        is = (
-          record {
-            node = there.0;
-            is = there.1;
-            wrong = λ o. wrong (subst (IsInOrder problem s.answer.now.stages.items stage n)
-                (numbered_is n there.0 there.1) o);
-          },
-          refl,
-        );
-        first = none_before (InStage problem s.answer.now stage) 0 (n ∷ []) (λ m h. absurd (omega arith))
-            (λ rest w b. earlier w.0 w.1.0 (subst (λ q. IsBefore q (n ∷ [])) w.1.1 b));
-      }
+  first_wrong ready within n l wrong before = let there = node_there ready within n l in record {
+    place = 0 ∷ n ∷ [];
+    is = (
+      record {
+        node = there.0;
+        is = there.1;
+        wrong = λ o. wrong (rw (numbered_is n there.0 there.1) at o);
+      },
+      refl,
+    );
+    first = none_before _ 0 (n ∷ []) (λ m h. absurd (omega arith))
+        (λ rest w b. earlier _ w.1.0 (subst (λ q. IsBefore q (n ∷ [])) w.1.1 b));
+  }
     where
       earlier : (m : ℕ) → HasWrongNode problem s.answer.now stage m → IsBefore (m ∷ []) (n ∷ []) → ⊥
-      earlier m w (inl less) = w.wrong (subst (IsInOrder problem s.answer.now.stages.items stage m)
-          (sym (numbered_is m w.node w.is)) (before m less))
+      earlier m w (inl less) = w.wrong (rw ((numbered_is m w.node w.is)) (before m less))
       earlier m w (inr same) = same.1

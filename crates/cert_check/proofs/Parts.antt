@@ -6,7 +6,7 @@ use Rattle.cert_check.specs.{declared.fault.Fault.Fault, declared.fault.Fault.Th
 use Rattle.cert_check.specs.declared.fault.Fault.TheVariants.{ExampleWrong, CountsDiffer, NodeWrong, StartMissing}
 use Rattle.cert_check.specs.declared.fault.Fault.TheVariants.{FinalPotential, NotClosed, Potential, StartPotential}
 use Rattle.cert_check.specs.declared.fault.Fault.TheVariants.{StateMissing, FinalsDiffer, ArcsTwice, ArcsDiffer}
-use Rattle.cert_check.specs.{Places.{IsBefore, in_stage}, FirstFaults.{IsFault, IsFirstFault}}
+use Rattle.cert_check.specs.{Places.{IsBefore}, FirstFaults.{IsFault, IsFirstFault}}
 use Rattle.cert_check.specs.Parts.{InStage, InAnswer, IsNoneBefore, IsFirstInStage}
 
 -- nothing is wrong before a place where the parts before it are right, and nothing is wrong before
@@ -15,7 +15,7 @@ pub none_before : (wrong : ℕ → List ℕ → Type 0) (n : ℕ) (ns : List ℕ
     → ((m : ℕ) → m < n → (rest : List ℕ) → wrong m rest → ⊥)
     → ((rest : List ℕ) → wrong n rest → IsBefore rest ns → ⊥) → IsNoneBefore wrong (n ∷ ns)
 none_before wrong n ns lower here part rest w (inl less) = lower part less rest w
-none_before wrong n ns lower here part rest w (inr same) = here rest (subst (λ m. wrong m rest) same.0 w) same.1
+none_before wrong n ns lower here part rest w (inr same) = here rest (rw same.0 at w) same.1
 
 -- nothing is before the first place of a part
 pub none_first : (rest : List ℕ) → IsBefore rest [] → ⊥
@@ -75,8 +75,7 @@ module _ (problem : Problem) (answer : Answer) where
   first_fault fault place h none = record {
     place = place;
     is = h;
-    first = λ other before i b. let p = parted other before i in none p.0 p.1.0 p.1.1.0
-        (subst (λ q. IsBefore q place) p.1.1.1 b);
+    first = λ other before i b. let p = parted _ _ i in none p.0 p.1.0 p.1.1.0 (rw p.1.1.1 at b);
   }
 
   -- the first fault of a stage comes first where the parts before the stages and the stages before it are right
@@ -85,13 +84,11 @@ module _ (problem : Problem) (answer : Answer) where
       → ((r : ℕ) → r < stage → (part : ℕ) (rest : List ℕ) → InStage problem answer r part rest → ⊥)
       → IsFirstInStage problem answer stage fault → IsFirstFault problem answer fault
   first_by_stage stage fault lower before f =
-      first_fault fault (in_stage stage f.place) f.is
-      (none_before (InAnswer problem answer) 4 (stage ∷ f.place) lower
-      (λ rest w b. own rest w (subst (λ q. IsBefore q (stage ∷ f.place)) w.1.1.1.1 b)))
+      first_fault _ _ f.is (none_before _ 4 (stage ∷ f.place) lower
+      (λ rest w b. own _ w (subst (λ q. IsBefore q (stage ∷ f.place)) w.1.1.1.1 b)))
     where
       own : (rest : List ℕ) → (w : (r : ℕ) ×
           ((part : ℕ) × ((place : List ℕ) × (InStage problem answer r part place × (rest ≡ r ∷ part ∷ place)))))
           → IsBefore (w.0 ∷ w.1.0 ∷ w.1.1.0) (stage ∷ f.place) → ⊥
       own rest w (inl less) = before w.0 less w.1.0 w.1.1.0 w.1.1.1.0
-      own rest w (inr same) = f.first w.1.0 w.1.1.0
-          (subst (λ r. InStage problem answer r w.1.0 w.1.1.0) same.0 w.1.1.1.0) same.1
+      own rest w (inr same) = f.first w.1.0 w.1.1.0 (rw same.0 at w.1.1.1.0) same.1

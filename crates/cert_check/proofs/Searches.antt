@@ -14,21 +14,17 @@ use Rattle.cert_check.specs.Searches.{told_in}
 module _ (kinds : List PrefixKind) (key : PrefixKind) (sorted : IsStrictlySortedBy kind_order kinds) where
   pub all_below : (m : ℕ) → m < length kinds → kind_order (get_or kinds m key) key ≡ Less → (i : ℕ) → i < m + 1
       → kind_order (get_or kinds i key) key ≡ Less
-  all_below m l e i h = ⊎_elim
-      (λ below. kind_order_total.trans (get_or kinds i key) (get_or kinds m key) key
-      (Less-from_sorted kind_order kinds i m key sorted below l) e)
-      (λ above. let is : i ≡ m = omega arith in ap (λ n. kind_order (get_or kinds n key) key) is ∙ e)
-      (cases_lt i m)
+  all_below m l e i h = ⊎_elim (λ below. kind_order_total.trans (get_or kinds i key) (get_or kinds m key) key
+      (Less-from_sorted _ _ i m key sorted below l) e)
+      (λ above. let is : i ≡ m = omega arith in ap (λ n. kind_order (get_or kinds n key) key) is ∙ e) (cases_lt i m)
 
   pub all_above : (m : ℕ) → m < length kinds → kind_order (get_or kinds m key) key ≡ Greater → (i : ℕ) → m ≤ i
       → i < length kinds → kind_order (get_or kinds i key) key ≡ Greater
   all_above m l e i h k = ⊎_elim
       (λ below.
-      let first : kind_order key (get_or kinds m key) ≡ Less = kind_order_total.antisymm key (get_or kinds m key)
-      ∙ ap ordering_reverse e in
-      let later : kind_order key (get_or kinds i key)
-      ≡ Less = kind_order_total.trans key (get_or kinds m key) (get_or kinds i key) first
-      (Less-from_sorted kind_order kinds m i key sorted below k) in
+      let first = kind_order_total.antisymm key (get_or kinds m key) ∙ ap ordering_reverse e in
+      let later = kind_order_total.trans key (get_or kinds m key) (get_or kinds i key) first
+      (Less-from_sorted _ _ m i key sorted below k) in
       kind_order_total.antisymm (get_or kinds i key) key ∙ ap ordering_reverse later)
       (λ above. let is : i ≡ m = omega arith in ap (λ n. kind_order (get_or kinds n key) key) is ∙ e)
       (cases_lt m i)
@@ -37,8 +33,7 @@ module _ (kinds : List PrefixKind) (key : PrefixKind) (sorted : IsStrictlySorted
       → ((i : ℕ) → high ≤ i → i < length kinds → kind_order (get_or kinds i key) key ≡ Greater) → Contains kinds key → ⊥
   not_there low high w below above c = ⊎_elim
       (λ l. not_before_itself key (ap (λ k. kind_order k key) (sym c.2) ∙ below c.0 l))
-      (λ g. let greater : kind_order key key ≡ Greater = ap (λ k. kind_order k key) (sym c.2)
-      ∙ above c.0 (omega (arith, w, g)) c.1 in
+      (λ g. let greater = ap (λ k. kind_order k key) (sym c.2) ∙ above c.0 (omega (arith, w, g)) c.1 in
       true≢false (sym (ap is_eq (tied_itself kind_order_total key)) ∙ ap is_eq greater))
       (cases_lt c.0 low)
 
@@ -57,22 +52,21 @@ module _ (shape : Shape) (stage : ℕ) (nodes : List Node) (key : Kind)
 
   compared : (o : Ordering) → kind_order (kind_in shape stage (get_or nodes middle node).kind) wanted ≡ o
       → kind_order (get_or kinds middle wanted) wanted ≡ o
-  compared o e = ap (λ k. kind_order k wanted)
-      (get_or-map (λ (node : Node). kind_in shape stage node.kind) nodes middle node wanted inside) ∙ e
+  compared o e = ap (λ k. kind_order k wanted) (get_or-map _ _ _ _ _ inside) ∙ e
 
   pub before_middle : kind_order (kind_in shape stage (get_or nodes middle node).kind) wanted ≡ Less → (i : ℕ)
       → i < middle + 1 → kind_order (get_or kinds i wanted) wanted ≡ Less
-  before_middle e = all_below kinds wanted sorted middle (omega (arith, inside, size)) (compared Less e)
+  before_middle e = all_below _ _ sorted _ (omega (arith, inside, size)) (compared _ e)
 
   pub behind_middle : kind_order (kind_in shape stage (get_or nodes middle node).kind) wanted ≡ Greater → (i : ℕ)
       → middle ≤ i → i < length nodes → kind_order (get_or kinds i wanted) wanted ≡ Greater
-  behind_middle e i h k = all_above kinds wanted sorted middle (omega (arith, inside, size)) (compared Greater e) i h
+  behind_middle e i h k = all_above _ _ sorted _ (omega (arith, inside, size)) (compared _ e) i h
       (omega (arith, k, size))
 
   pub at_middle : kind_order (kind_in shape stage (get_or nodes middle node).kind) wanted ≡ Equal
       → slice_get kinds middle ≡ Some wanted
-  at_middle e = slice_get-get_or kinds middle wanted (omega (arith, inside, size))
-      ∙ ap (λ (k : PrefixKind). Some k) (same_kind (get_or kinds middle wanted) wanted (compared Equal e))
+  at_middle e = slice_get-get_or _ middle wanted (omega (arith, inside, size)) ∙ ap (λ (k : PrefixKind). Some k)
+      (same_kind _ _ (compared _ e))
 
 less_told : (o : Ordering) → is_lt o ≡ true → o ≡ Less
 less_told Less h = refl

@@ -27,23 +27,23 @@ module _ (s : Subject) (stage : ℕ) (ready : IsReady s) (within : stage ≤ las
   pub node_here : (ns : List Node) (n : ℕ) (node : Node) → ns ≡ stage_nodes s stage → n < length ns
       → node ≡ get_or ns n node → HasNode s.answer.now stage n node
   node_here ns n node e l f = record {
-    within = in_stages s ready stage within;
-    numbered = slice_get-get_or (stage_nodes s stage) n node (omega (arith, l, ap (λ (xs : List Node). length xs) e))
-        ∙ ap (λ (x : Node). Some x) (sym (f ∙ ap (λ (xs : List Node). get_or xs n node) e));
+    within = in_stages s ready _ within;
+    numbered = slice_get-get_or _ n _ (omega (arith, l, ap (λ (xs : List Node). length xs) e)) ∙ ap
+        (λ (x : Node). Some x) (sym (f ∙ ap (λ (xs : List Node). get_or xs n node) e));
   }
 
   -- a node that stands where it may has its place in the form
   pub place_in : AreFirstNodesInOrder s stage (length (stage_nodes s stage)) → (n : ℕ) (node : Node)
       → HasNode s.answer.now stage n node → node.kind.place ≤ last_place (problem_of s)
   place_in order n node h =
-      let o = order n (slice_get_within (stage_nodes s stage) n node h.numbered) in
-      subst (λ k. k.place ≤ last_place (problem_of s)) (sym (numbered_is s stage n node h)) o.possible.place
+      let o = order n (slice_get_within _ n _ h.numbered) in
+      subst (λ k. k.place ≤ last_place (problem_of s)) (sym (numbered_is s _ n _ h)) o.possible.place
 
   module _ (order : AreFirstNodesInOrder s stage (length (stage_nodes s stage)))
       (start : slice_get (stage_kinds s stage) 0 ≡ Some (kind_of (problem_of s) stage [])) where
     -- nothing is wrong before the nodes
     below_nodes : (m : ℕ) → m < 2 → (rest : List ℕ) → InStage problem answer stage m rest → ⊥
-    below_nodes zero l = order_part s stage ready within order
+    below_nodes zero l = order_part s _ ready within order
     below_nodes (suc zero) l = λ rest w. w.0.lacks start
     below_nodes (suc (suc m)) l = absurd (omega arith)
 
@@ -55,16 +55,15 @@ module _ (s : Subject) (stage : ℕ) (ready : IsReady s) (within : stage ≤ las
     first_in_node n fault before f = record {
       place = 2 ∷ n ∷ f.place;
       is = f.is;
-      first = none_before (InStage problem answer stage) 2 (n ∷ f.place) below_nodes own;
+      first = none_before _ 2 (n ∷ f.place) below_nodes own;
     }
       where
         own : (rest : List ℕ) → InStage problem answer stage 2 rest → IsBefore rest (n ∷ f.place) → ⊥
-        own rest w b = at (subst (λ q. IsBefore q (n ∷ f.place)) w.1.1.1.1 b)
+        own rest w b = at (rw w.1.1.1.1 at b)
           where
             at : IsBefore (w.0 ∷ w.1.0 ∷ w.1.1.0) (n ∷ f.place) → ⊥
             at (inl less) = before w.0 less w.1.0 w.1.1.0 w.1.1.1.0
-            at (inr same) = f.first w.1.0 w.1.1.0
-                (subst (λ m. InNode problem answer stage m w.1.0 w.1.1.0) same.0 w.1.1.1.0) same.1
+            at (inr same) = f.first w.1.0 w.1.1.0 (rw same.0 at w.1.1.1.0) same.1
 
     -- ---- the potential of the start
 
@@ -72,38 +71,37 @@ module _ (s : Subject) (stage : ℕ) (ready : IsReady s) (within : stage ≤ las
       where
         of_node : (n part : ℕ) (rest : List ℕ) → InNode problem answer stage n part rest
             → n < length (stage_nodes s stage)
-        of_node n zero rest w = slice_get_within (stage_nodes s stage) n w.1.0.node w.1.0.is.numbered
-        of_node n (suc zero) rest w = by w.0 w.1.0
+        of_node n zero rest w = slice_get_within _ n _ w.1.0.is.numbered
+        of_node n (suc zero) rest w = by _ w.1.0
           where
             by : (column : List Sym) → IsWrongMove problem answer stage n column → n < length (stage_nodes s stage)
-            by column (inl v) = slice_get_within (stage_nodes s stage) n v.1.node v.1.is.numbered
-            by column (inr v) = slice_get_within (stage_nodes s stage) n v.1.1.node v.1.1.is.numbered
+            by column (inl v) = slice_get_within _ n _ v.1.is.numbered
+            by column (inr v) = slice_get_within _ n _ v.1.1.is.numbered
         of_node n (suc (suc part)) rest w = absurd w
 
         below_start : (m : ℕ) → m < 3 → (rest : List ℕ) → InStage problem answer stage m rest → ⊥
         below_start zero l = below_nodes 0 (omega arith)
         below_start (suc zero) l = below_nodes 1 (omega arith)
-        below_start (suc (suc zero)) l = λ rest w. nodes w.0
-            (of_node w.0 w.1.0 w.1.1.0 w.1.1.1.0) w.1.0 w.1.1.0 w.1.1.1.0
+        below_start (suc (suc zero)) l = λ rest w. nodes w.0 (of_node _ _ _ w.1.1.1.0) w.1.0 w.1.1.0 w.1.1.1.0
         below_start (suc (suc (suc m))) l = absurd (omega arith)
 
         some_nodes : 0 < length (stage_nodes s stage)
         some_nodes = omega (
           arith,
-          slice_get_within (stage_kinds s stage) 0 (kind_of (problem_of s) stage []) start,
+          slice_get_within _ 0 _ start,
           length-map (stage_nodes s stage) (λ (node : Node). kind_of_bits (problem_of s) stage node.kind),
         )
 
         pub right_stage : (listed : ℕ) → ((node : Node) → listed ≡ (get_or (stage_nodes s stage) 0 node).potential)
             → listed ≡ start_potential s.answer.now.counts.items stage
             → IsFaultlessStage (problem_of s) s.answer.now stage
-        right_stage listed is same zero rest w = below_start 0 (omega arith) rest w
-        right_stage listed is same (suc zero) rest w = below_start 1 (omega arith) rest w
-        right_stage listed is same (suc (suc zero)) rest w = below_start 2 (omega arith) rest w
+        right_stage listed is same zero rest w = below_start 0 (omega arith) _ w
+        right_stage listed is same (suc zero) rest w = below_start 1 (omega arith) _ w
+        right_stage listed is same (suc (suc zero)) rest w = below_start 2 (omega arith) _ w
         right_stage listed is same (suc (suc (suc zero))) rest w =
             let h = w.1.1.0 in
-            let here : get_or (stage_nodes s stage) 0 h.node ≡ h.node =
-            get_or_from_slice_get (stage_nodes s stage) 0 h.node h.node h.is.numbered in
+            let here =
+            get_or_from_slice_get _ 0 _ _ h.is.numbered in
             h.differs (h.listed_is ∙ ap (λ (x : Node). x.potential) (sym here) ∙ sym (is h.node) ∙ same
             ∙ sym h.count_is)
         right_stage listed is same (suc (suc (suc (suc m)))) rest w = absurd w
@@ -112,7 +110,7 @@ module _ (s : Subject) (stage : ℕ) (ready : IsReady s) (within : stage ≤ las
             → ((node : Node) → listed ≡ (get_or (stage_nodes s stage) 0 node).potential)
             → count ≡ start_potential s.answer.now.counts.items stage → listed ≢ count
             → IsFirstInStage (problem_of s) s.answer.now stage (StartPotential stage listed count)
-        first_start listed count is same differs = by (stage_nodes s stage) refl
+        first_start listed count is same differs = by _ refl
           where
             by : (ns : List Node) → stage_nodes s stage ≡ ns
                 → IsFirstInStage (problem_of s) s.answer.now stage (StartPotential stage listed count)
@@ -123,8 +121,8 @@ module _ (s : Subject) (stage : ℕ) (ready : IsReady s) (within : stage ≤ las
                 record {
                   node = get_or (stage_nodes s stage) 0 node;
                   is = record {
-                    within = in_stages s ready stage within;
-                    numbered = slice_get-get_or (stage_nodes s stage) 0 node some_nodes;
+                    within = in_stages s ready _ within;
+                    numbered = slice_get-get_or _ 0 _ some_nodes;
                   };
                   listed_is = is node;
                   count_is = same;
@@ -132,7 +130,7 @@ module _ (s : Subject) (stage : ℕ) (ready : IsReady s) (within : stage ≤ las
                 },
                 refl,
               );
-              first = none_before (InStage problem answer stage) 3 [] below_start (λ rest w b. b);
+              first = none_before _ 3 [] below_start (λ rest w b. b);
             }
 
 -- ---- all stages
@@ -140,13 +138,10 @@ module _ (s : Subject) (stage : ℕ) (ready : IsReady s) (within : stage ≤ las
 module _ (s : Subject) (ready : IsReady s) (head : HasRightHead (problem_of s) s.answer.now) where
   -- nothing is wrong before the stages
   pub before_stages : (m : ℕ) → m < 4 → (rest : List ℕ) → InAnswer (problem_of s) s.answer.now m rest → ⊥
-  before_stages = head_parts (problem_of s) s.answer.now
-      (form_part (problem_of s) s.answer.now ready.form)
-      (numbers_part (problem_of s) s.answer.now ready.numbers)
-      (example_part (problem_of s) s.answer.now head.example)
-      (counts_part (problem_of s) s.answer.now head.counts)
+  before_stages = head_parts (problem_of s) s.answer.now (form_part _ s.answer.now ready.form)
+      (numbers_part _ _ ready.numbers) (example_part _ s.answer.now head.example) (counts_part _ _ head.counts)
 
   pub first_stage : (stage : ℕ) (fault : Fault)
       → ((r : ℕ) → r < stage → IsFaultlessStage (problem_of s) s.answer.now r)
       → IsFirstInStage (problem_of s) s.answer.now stage fault → IsFirstFault (problem_of s) s.answer.now fault
-  first_stage stage fault before f = first_by_stage (problem_of s) s.answer.now stage fault before_stages before f
+  first_stage stage fault before f = first_by_stage _ _ _ _ before_stages before f

@@ -1,8 +1,8 @@
 -- The kind of the empty prefix, by its bits, and at node 0 of a stage.
 use Rattle.std.proofs.Common.{◌≡◌, ◌↔◌, ℕ, zero, suc, ◌<◌, ◌≤◌, IsTrue, Bool, false, List, [], ◌∷◌, map, length}
-use Rattle.std.proofs.{Common.{slice_get, Some, refl, sym, ap, ap₂, ◌∙◌, subst, arith}, lemmas.Cmp.tied_itself}
+use Rattle.std.proofs.{Common.{slice_get, Some, refl, sym, ap, ap₂, ◌∙◌, arith}, lemmas.Cmp.tied_itself}
 use Rattle.std.proofs.{lemmas.List.FromFn.length-range_with_len, lemmas.Option.slice_get_within}
-use Rattle.std.specs.{List.{AllByRecursion, range_with_len}, Ordering.is_eq, declared.cmp.Ordering.Ordering}
+use Rattle.std.specs.{List.{AllByRecursion}, Ordering.is_eq, declared.cmp.Ordering.Ordering}
 use Rattle.tier_core.specs.{declared.constraint.Constraint.Constraint, declared.kind.Kind.Kind, Kinds.{Phase, closed}}
 use Rattle.tier_core.specs.Kinds.{PrefixKind, open_tiers, phase_at, phases, phase_by_bits, kind_order}
 use Rattle.tier_core.specs.{Tiers.has_tier, KindShapes.kind_in, Sides.is_stretch}
@@ -10,7 +10,7 @@ use Rattle.violation.specs.{Conditions.IsOverTiers, Prefixes.{kind_of, kind_of_b
 use Rattle.violation.specs.Problems.{Problem, last_stage}
 use Rattle.violation.proofs.ClosedPhases.{closed_first}
 use Rattle.cert_check.specs.{declared.fault.Fault.TheVariants.StartMissing, declared.subject.Subject.Subject}
-use Rattle.cert_check.specs.{Faults.IsInOrder, Parts.{InStage, IsFirstInStage}}
+use Rattle.cert_check.specs.{Parts.{InStage, IsFirstInStage}}
 use Rattle.cert_check.specs.Subjects.{IsReady, AreFirstNodesInOrder, problem_of, stage_nodes, stage_kinds}
 use Rattle.tier_core.proofs.{KindTies.{same_kind, kind_order_total, is_equal}, Members.all_first, MaskBits.no_bit}
 use Rattle.cert_check.proofs.{Orders.numbered_is, Parts.none_before, Subjects.{in_stages, tell_same}}
@@ -32,13 +32,13 @@ module _ (kind : Kind) (unmet : kind.unmet ≡ 0) (met : kind.met ≡ 0) where
   all_closed [] [] e h = refl
   all_closed [] (i ∷ is) e h = absurd (omega arith)
   all_closed (c ∷ cs) [] e h = absurd (omega arith)
-  all_closed (c ∷ cs) (i ∷ is) e h = ap₂ (λ p ps. p ∷ ps) (closed_at i ∙ sym (closed_first c.left c.right h.0))
+  all_closed (c ∷ cs) (i ∷ is) e h = ap₂ (λ p ps. p ∷ ps) (closed_at i ∙ sym (closed_first _ c.right h.0))
       (all_closed cs is (omega arith) h.1)
 
 -- kinds tie exactly where they are one
 pub tie_is : (k l : PrefixKind) → IsTrue (is_eq (kind_order k l)) ↔ (k ≡ l)
 tie_is k l = (
-  λ h. same_kind k l (is_equal (kind_order k l) h),
+  λ h. same_kind k l (is_equal _ h),
   λ e. ap is_eq (ap (λ x. kind_order k x) (sym e) ∙ tied_itself kind_order_total k),
 )
 
@@ -60,14 +60,11 @@ module _ (s : Subject) (stage : ℕ) where
   pub start_told : (kind : Kind) → kind.place ≡ 0 → kind.opened ≡ 0 → kind.unmet ≡ 0 → kind.met ≡ 0
       → kind_of_bits problem stage kind ≡ kind_of problem stage []
   start_told kind place opened unmet met =
-      let flags : open_tiers (length problem.tiers.free) kind.opened ≡ map (λ (t : ℕ). false) problem.tiers.free =
-      ap (open_tiers (length problem.tiers.free)) opened
-      ∙ none_open problem.tiers.free (range_with_len 0 (length problem.tiers.free))
+      let flags =
+      ap (open_tiers (length problem.tiers.free)) opened ∙ none_open _ _
       (sym (length-range_with_len 0 (length problem.tiers.free))) in
-      let ps : phases (length (stretches problem stage)) kind
-      ≡ map (λ (c : Constraint). phase c.left c.right []) (stretches problem stage) =
-      all_closed kind unmet met (stretches problem stage) (range_with_len 0 (length (stretches problem stage)))
-      (sym (length-range_with_len 0 (length (stretches problem stage)))) lefts in
+      let ps =
+      all_closed kind unmet met _ _ (sym (length-range_with_len 0 (length (stretches problem stage)))) lefts in
       ap (λ (n : ℕ). let k : PrefixKind = record {
         place = n;
         opened = open_tiers (length problem.tiers.free) kind.opened;
@@ -82,10 +79,10 @@ module _ (s : Subject) (stage : ℕ) where
         → (o : Ordering) → o ≡ kind_order (kind_in s.shape.now stage kind) (kind_in s.shape.now stage start)
         → IsTrue (is_eq o) ↔ (kind_of_bits problem stage kind ≡ kind_of problem stage [])
     start_by kind start place opened unmet met o e =
-        let same : o ≡ kind_order (kind_of_bits problem stage kind) (kind_of problem stage []) =
-        e ∙ ap₂ kind_order (tell_same s ready stage within kind)
-        (tell_same s ready stage within start ∙ start_told start place opened unmet met) in
-        let t = tie_is (kind_of_bits problem stage kind) (kind_of problem stage []) in
+        let same =
+        e ∙ ap₂ kind_order (tell_same s ready _ within kind)
+        (tell_same s ready _ within start ∙ start_told start place opened unmet met) in
+        let t = tie_is _ _ in
         (λ h. t.0 (sym (ap is_eq same) ∙ h), λ h. ap is_eq same ∙ t.1 h)
 
     -- nodes that stand where they may leave no fault of theirs
@@ -93,9 +90,7 @@ module _ (s : Subject) (stage : ℕ) where
         → InStage problem s.answer.now stage 0 rest → ⊥
     order_part order rest w =
         let h = w.1.0 in
-        h.wrong (subst (IsInOrder problem s.answer.now.stages.items stage w.0)
-        (sym (numbered_is s stage w.0 h.node h.is))
-        (order w.0 (slice_get_within (stage_nodes s stage) w.0 h.node h.is.numbered)))
+        h.wrong (rw ((numbered_is s stage w.0 h.node h.is)) (order w.0 (slice_get_within _ _ _ h.is.numbered)))
 
     below_one : AreFirstNodesInOrder s stage (length (stage_nodes s stage)) → (m : ℕ) → m < 1 → (rest : List ℕ)
         → InStage problem s.answer.now stage m rest → ⊥
@@ -107,6 +102,6 @@ module _ (s : Subject) (stage : ℕ) where
         → IsFirstInStage problem s.answer.now stage (StartMissing stage)
     first_missing order lacks = record {
       place = 1 ∷ [];
-      is = (record { within = in_stages s ready stage within; lacks = lacks }, refl);
-      first = none_before (InStage problem s.answer.now stage) 1 [] (below_one order) (λ rest w b. b);
+      is = (record { within = in_stages s ready _ within; lacks = lacks }, refl);
+      first = none_before _ 1 [] (below_one order) (λ rest w b. b);
     }

@@ -1,20 +1,19 @@
 -- The first fault of a state.
-use Rattle.std.proofs.Common.{◌≡◌, ℕ, zero, suc, ◌<◌, Bool, true, false, IsTrue, List, [], ◌∷◌, slice_get, Some}
+use Rattle.std.proofs.Common.{◌≡◌, ℕ, zero, suc, ◌<◌, Bool, true, false, List, [], ◌∷◌, slice_get, Some}
 use Rattle.std.proofs.Common.{Option, refl, sym, ap, ◌∙◌, subst, arith, inl, inr, Contains, true≢false}
-use Rattle.std.proofs.{lemmas.Bool.cases_order, lemmas.Option.slice_get-get_or}
 use Rattle.std.specs.{List.Sorted.IsStrictlySortedBy, Ordering.nat_cmp}
-use Rattle.tier_core.specs.{declared.sym.Sym.Sym, Classes.has, Kinds.PrefixKind}
-use Rattle.violation.specs.{Moves.is_final, Problems.{Problem, last_stage}}
+use Rattle.tier_core.specs.{declared.sym.Sym.Sym, Kinds.PrefixKind}
+use Rattle.violation.specs.{Moves.is_final, Problems.{Problem}}
 use Rattle.answer_text.specs.{declared.automaton.ArcLine.ArcLine, declared.automaton.StateLine.StateLine}
-use Rattle.answer_text.specs.{declared.answer.Answer.Answer, Right.{nodes_at, numbers_of}}
+use Rattle.answer_text.specs.{declared.answer.Answer.Answer, Right.{numbers_of}}
 use Rattle.check_laws.proofs.{Leading.one_state, Listing.one_kind}
 use Rattle.cert_check.specs.declared.fault.Fault.TheVariants.{StateMissing, FinalsDiffer, ArcsTwice, ArcsDiffer}
 use Rattle.cert_check.specs.{Arcs.{is_twice, do_differ, IsLeastColumn, IsNoColumn}, Faults.{IsState, HasState}}
 use Rattle.cert_check.specs.Faults.{LacksTarget, HasTwice, HasWrongArcs, IsKindOfState, IsListedTarget}
-use Rattle.cert_check.specs.{Faults.IsKeptTarget, Parts.{InState, IsFirstInState}, Places.{IsBefore, column_place}}
+use Rattle.cert_check.specs.{Parts.{IsFirstInState}, Places.{IsBefore, column_place}}
 use Rattle.cert_check.specs.States.{IsRightPartOf, IsRightState, AreKeptArcs}
-use Rattle.cert_check.proofs.ArcLists.{HasOneTarget, targets_agree, targets_differ, twice_to, twice_from}
-use Rattle.cert_check.proofs.{Faultless.some_same, Parts.none_before}
+use Rattle.cert_check.proofs.ArcLists.{HasOneTarget, one_target, targets_agree, targets_differ, twice_to, twice_from}
+use Rattle.cert_check.proofs.Parts.{none_before}
 
 module _ (problem : Problem) (answer : Answer)
     (ascending : IsStrictlySortedBy nat_cmp (numbers_of answer.automaton.states.items)) (line : StateLine)
@@ -29,7 +28,7 @@ module _ (problem : Problem) (answer : Answer)
   has_state = record { listed = listed; numbered = refl }
 
   one_line : (other : StateLine) → HasState answer line.node other → other ≡ line
-  one_line other h = one_state answer.automaton.states.items ascending other line h.listed listed h.numbered
+  one_line other h = one_state _ ascending _ _ h.listed listed h.numbered
 
   -- ---- the targets of its arcs
 
@@ -37,12 +36,10 @@ module _ (problem : Problem) (answer : Answer)
   IsTargetRight n = (arc : ArcLine) → slice_get arcs n ≡ Some arc → IsState answer arc.target
 
   no_lack : (n target : ℕ) → IsTargetRight n → LacksTarget answer line.node n target → ⊥
-  no_lack n target right h = h.lacks (subst (IsState answer) (sym h.target_is)
-      (right h.arc_line (subst (λ (x : StateLine). slice_get x.arcs.items n ≡ Some h.arc_line)
-      (one_line h.line h.is) h.numbered)))
+  no_lack n target right h = h.lacks (rw h.target_is (right h.arc_line (rw (one_line h.line h.is) at h.numbered)))
 
   pub targets_right : ((n : ℕ) → IsTargetRight n) → IsRight 0
-  targets_right right rest w = no_lack w.0 w.1.0 (right w.0) w.1.1.0
+  targets_right right rest w = no_lack _ _ (right w.0) w.1.1.0
 
   pub first_target : (n : ℕ) (arc : ArcLine) → slice_get arcs n ≡ Some arc → (IsState answer arc.target → ⊥)
       → ((m : ℕ) → m < n → IsTargetRight m) → IsFirstInState problem answer line.node
@@ -63,12 +60,12 @@ module _ (problem : Problem) (answer : Answer)
         refl,
       ),
     );
-    first = none_before (InState problem answer line.node) 0 (n ∷ []) (λ m h. absurd (omega (arith, h)))
-        (λ rest w b. earlier w.0 w.1.0 w.1.1.0 (subst (λ q. IsBefore q (n ∷ [])) w.1.1.1 b));
+    first = none_before _ 0 (n ∷ []) (λ m h. absurd (omega (arith, h)))
+        (λ rest w b. earlier _ _ w.1.1.0 (subst (λ q. IsBefore q (n ∷ [])) w.1.1.1 b));
   }
     where
       earlier : (m target : ℕ) → LacksTarget answer line.node m target → IsBefore (m ∷ []) (n ∷ []) → ⊥
-      earlier m target w (inl less) = no_lack m target (before m less) w
+      earlier m target w (inl less) = no_lack m _ (before m less) w
       earlier m target w (inr same) = same.1
 
   -- ---- its mark
@@ -77,9 +74,8 @@ module _ (problem : Problem) (answer : Answer)
     pub mark_right : line.accepting ≡ is_final problem k → IsRight 1
     mark_right e rest w =
         let h = w.1.0 in
-        h.differs (h.listed_is ∙ ap (λ (x : StateLine). x.accepting) (one_line h.line h.is) ∙ e
-        ∙ ap (is_final problem) (one_kind problem (nodes_at answer.stages.items (last_stage problem)) k h.kind
-        line.node of_kind h.of_kind))
+        h.differs (h.listed_is ∙ ap (λ (x : StateLine). x.accepting) (one_line _ h.is) ∙ e ∙ ap (is_final problem)
+        (one_kind _ _ k _ _ of_kind h.of_kind))
 
     pub first_mark : IsRight 0 → (line.accepting ≡ is_final problem k → ⊥)
         → IsFirstInState problem answer line.node (FinalsDiffer line.node line.accepting)
@@ -96,7 +92,7 @@ module _ (problem : Problem) (answer : Answer)
         },
         refl,
       );
-      first = none_before (InState problem answer line.node) 1 [] (below_one targets) (λ rest w b. b);
+      first = none_before _ 1 [] (below_one targets) (λ rest w b. b);
     }
       where
         below_one : IsRight 0 → (m : ℕ) → m < 1 → IsRight m
@@ -106,12 +102,11 @@ module _ (problem : Problem) (answer : Answer)
   -- ---- columns in two arcs
 
   twice_is : (column : List Sym) → HasTwice answer line.node column → is_twice arcs column ≡ true
-  twice_is column h = subst (λ (x : StateLine). is_twice x.arcs.items column ≡ true) (one_line h.line h.is)
-      (twice_from h.line.arcs.items column h.first h.second h.first_arc h.second_arc h.ascending h.first_is
-      h.second_is h.in_first h.in_second)
+  twice_is column h = rw (one_line h.line h.is) at
+      (twice_from _ _ _ _ _ _ h.ascending h.first_is h.second_is h.in_first h.in_second)
 
   pub twice_right : IsNoColumn (is_twice arcs) → IsRight 2
-  twice_right none rest w = true≢false (sym (twice_is w.0 w.1.0) ∙ none w.0)
+  twice_right none rest w = true≢false (sym (twice_is _ w.1.0) ∙ none w.0)
 
   below_two : IsRight 0 → IsRight 1 → (m : ℕ) → m < 2 → IsRight m
   below_two a b zero l = a
@@ -121,7 +116,7 @@ module _ (problem : Problem) (answer : Answer)
   pub first_twice : IsRight 0 → IsRight 1 → (column : List Sym) → IsLeastColumn (is_twice arcs) column
       → IsFirstInState problem answer line.node (ArcsTwice line.node column)
   first_twice targets mark column least =
-      let two = twice_to arcs column least.is in
+      let two = twice_to _ _ least.is in
       record {
         place = 2 ∷ column_place column;
         is = (
@@ -140,47 +135,33 @@ module _ (problem : Problem) (answer : Answer)
           },
           refl,
         );
-        first = none_before (InState problem answer line.node) 2 (column_place column) (below_two targets mark)
-            (λ rest w b. least.first w.0 (twice_is w.0 w.1.0) (subst (λ q. IsBefore q (column_place column)) w.1.1 b));
+        first = none_before _ 2 _ (below_two targets mark)
+            (λ rest w b. least.first w.0 (twice_is _ w.1.0) (rw w.1.1 at b));
       }
 
   -- ---- its arcs and the kept moves
 
   -- where no column is in two arcs, it has one target
-  one_target : IsRight 2 → (column : List Sym) → HasOneTarget arcs column
-  one_target once column m n a b = elim (cases_order a.1.0.0 b.1.0.0) [
-    | inl same ↦ sym a.1.2 ∙ ap (λ (x : ArcLine). x.target)
-        (some_same (sym (numbered a.0 a.1.0) ∙ ap (slice_get arcs) same ∙ numbered b.0 b.1.0)) ∙ b.1.2
-    | inr other ↦ elim other [
-      | inl less ↦ absurd (two a.1.0.0 b.1.0.0 a.0 b.0 less (numbered a.0 a.1.0) (numbered b.0 b.1.0) a.1.1 b.1.1)
-      | inr more ↦ absurd (two b.1.0.0 a.1.0.0 b.0 a.0 more (numbered b.0 b.1.0) (numbered a.0 a.1.0) b.1.1 a.1.1)
-    ]
-  ]
-    where
-      numbered : (arc : ArcLine) (h : Contains arcs arc) → slice_get arcs h.0 ≡ Some arc
-      numbered arc h = slice_get-get_or arcs h.0 arc h.1 ∙ ap (λ (x : ArcLine). Some x) h.2
-
-      two : (i j : ℕ) (x y : ArcLine) → i < j → slice_get arcs i ≡ Some x → slice_get arcs j ≡ Some y
-          → IsTrue (has x.class column) → IsTrue (has y.class column) → ⊥
-      two i j x y l e f h k = once (column_place column) (
-        column,
-        (
-          record {
-            line = line;
-            is = has_state;
-            first = i;
-            second = j;
-            ascending = l;
-            first_arc = x;
-            first_is = e;
-            second_arc = y;
-            second_is = f;
-            in_first = h;
-            in_second = k;
-          },
-          refl,
-        ),
-      )
+  single : IsRight 2 → (column : List Sym) → HasOneTarget arcs column
+  single once column = one_target arcs column (λ i j x y l e f h k. once (column_place column) (
+    column,
+    (
+      record {
+        line = line;
+        is = has_state;
+        first = i;
+        second = j;
+        ascending = l;
+        first_arc = x;
+        first_is = e;
+        second_arc = y;
+        second_is = f;
+        in_first = h;
+        in_second = k;
+      },
+      refl,
+    ),
+  ))
 
   module _ (k : PrefixKind) (of_kind : IsKindOfState problem answer line.node k) (once : IsRight 2)
       (kept : List ArcLine) (are : AreKeptArcs problem answer k kept)
@@ -189,14 +170,12 @@ module _ (problem : Problem) (answer : Answer)
     agreed : (column : List Sym) (s t : Option ℕ) → HasWrongArcs problem answer line.node column s t
         → do_differ arcs kept column ≡ false → ⊥
     agreed column s t h e =
-        let kind : h.kind ≡ k = one_kind problem (nodes_at answer.stages.items (last_stage problem)) h.kind k
-        line.node h.of_kind of_kind in
-        h.differs (targets_agree arcs kept column (one_target once column) (one_kept column) e s t
-        (subst (λ (x : StateLine). IsListedTarget x.arcs.items column s) (one_line h.line h.is) h.listed_is)
-        ((are.targets column t).1 (subst (λ x. IsKeptTarget problem answer x column t) kind h.kept_is)))
+        let kind = one_kind _ _ _ k _ h.of_kind of_kind in
+        h.differs (targets_agree _ _ _ (single once _) (one_kept column) e s t
+        (rw (one_line h.line h.is) at h.listed_is) ((are.targets column t).1 (rw kind at h.kept_is)))
 
     pub arcs_right : IsNoColumn (do_differ arcs kept) → IsRight 3
-    arcs_right none rest w = agreed w.0 w.1.0 w.1.1.0 w.1.1.1.0 (none w.0)
+    arcs_right none rest w = agreed _ _ _ w.1.1.1.0 (none w.0)
 
     below_three : IsRight 0 → IsRight 1 → (m : ℕ) → m < 3 → IsRight m
     below_three a b zero l = a
@@ -217,22 +196,21 @@ module _ (problem : Problem) (answer : Answer)
           of_kind = of_kind;
           listed_is = a;
           kept_is = (are.targets column t).0 b;
-          differs = targets_differ arcs kept column (one_target once column) (one_kept column) least.is s t a b;
+          differs = targets_differ _ _ _ (single once _) (one_kept column) least.is s t a b;
         },
         refl,
       );
-      first = none_before (InState problem answer line.node) 3 (column_place column) (below_three targets mark)
-          (λ rest w before. earlier w.0 w.1.0 w.1.1.0 w.1.1.1.0
-          (subst (λ q. IsBefore q (column_place column)) w.1.1.1.1 before));
+      first = none_before _ 3 _ (below_three targets mark)
+          (λ rest w before. earlier _ _ _ w.1.1.1.0 (rw w.1.1.1.1 at before));
     }
       where
         earlier : (other : List Sym) (m n : Option ℕ) → HasWrongArcs problem answer line.node other m n
             → IsBefore (column_place other) (column_place column) → ⊥
-        earlier other m n w before = by (do_differ arcs kept other) refl
+        earlier other m n w before = by _ refl
           where
             by : (b : Bool) → do_differ arcs kept other ≡ b → ⊥
             by true e = least.first other e before
-            by false e = agreed other m n w e
+            by false e = agreed _ m n w e
 
   -- ---- all its parts
 

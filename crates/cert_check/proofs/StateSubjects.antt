@@ -1,5 +1,5 @@
 -- What is known of a state that is looked at.
-use Rattle.std.proofs.Common.{◌≡◌, ◌^◌, ◌<◌, List, length, ◌∙◌, subst, arith, All, refl}
+use Rattle.std.proofs.Common.{◌≡◌, ◌^◌, ◌<◌, length, ◌∙◌, subst, arith, All, refl}
 use Rattle.std.proofs.{lemmas.List.Elements.All-contains, lemmas.Option.{slice_get_within, get_or_from_slice_get}}
 use Rattle.std.specs.{List.Sorted.IsStrictlySortedBy, Ordering.nat_cmp}
 use Rattle.tier_core.specs.{Classes.sets_of, KindShapes.FitsShape}
@@ -31,13 +31,10 @@ module _ (s : Subject) (staged : IsRightBeforeStates s) where
 
     pub node_fits : FitsShape s.shape.now (last_stage (problem_of s)) node.kind
     node_fits =
-        let nodes : List Node = stage_nodes s (last_stage (problem_of s)) in
+        let nodes = stage_nodes s (last_stage (problem_of s)) in
         subst (λ (x : Node). FitsShape s.shape.now (last_stage (problem_of s)) x.kind)
         (get_or_from_slice_get nodes state.node node node at.is.numbered)
-        (fits_at s staged.ready (last_stage (problem_of s)) (omega arith) state.node node
-        (slice_get_within nodes state.node node at.is.numbered))
+        (fits_at s staged.ready _ (omega arith) _ _ (slice_get_within nodes state.node node at.is.numbered))
 
     pub opened_few : node.kind.opened < 2 ^ length (problem_of s).tiers.free
-    opened_few = subst (λ n. node.kind.opened < 2 ^ n) (free_same s staged.ready (last_stage (problem_of s))
-        (omega arith))
-        node_fits.opened
+    opened_few = rw (free_same s staged.ready (last_stage (problem_of s)) (omega arith)) at node_fits.opened

@@ -1,11 +1,11 @@
 -- What a stop says, in other words.
-use Rattle.std.proofs.{Common.{◌≡◌, IfErr, Result, subst}, lemmas.Result.IfErr-weaker}
+use Rattle.std.proofs.{Common.{◌≡◌, IfErr, Result}, lemmas.Result.IfErr-weaker}
 use Rattle.cert_check.specs.{declared.fault.Fault.Fault, declared.stop.Stop.Stop}
 use Rattle.cert_check.specs.{declared.stop.Stop.TheVariants.{Found, NoMemory}, Stops.StopsBy}
 
 -- what a stop by a fault says
 pub stop_said : (P : Fault → Type 0) (stop : Stop) (fault : Fault) → stop ≡ Found fault → StopsBy P stop → P fault
-stop_said P stop fault e p = subst (StopsBy P) e p
+stop_said P stop fault e p = rw e at p
 
 pub stop_says : (P Q : Fault → Type 0) → ((fault : Fault) → P fault → Q fault) → (stop : Stop) → StopsBy P stop
     → StopsBy Q stop

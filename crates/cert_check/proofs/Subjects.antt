@@ -1,6 +1,6 @@
 -- What is known of an answer when its stages are looked at.
-use Rattle.std.proofs.Common.{◌≡◌, ◌↔◌, ℕ, ◌+◌, ◌-◌, ◌^◌, ◌<◌, ◌≤◌, ◌&&◌, not, Bool, List, [], ◌∷◌, map, filter}
-use Rattle.std.proofs.Common.{take, length, get_or, refl, sym, ap, ap₂, ◌∙◌, subst, arith, All}
+use Rattle.std.proofs.Common.{◌≡◌, ◌↔◌, ℕ, ◌+◌, ◌-◌, ◌<◌, ◌≤◌, ◌&&◌, not, Bool, List, [], ◌∷◌, map}
+use Rattle.std.proofs.Common.{take, length, get_or, refl, sym, ap, ap₂, ◌∙◌, arith, All}
 use Rattle.std.proofs.lemmas.List.{get_or-map, get_or_default, get_or-take, length-take-le}
 use Rattle.std.proofs.lemmas.List.Elements.{All-from_recursion}
 use Rattle.std.proofs.lemmas.List.FromFn.{fill_by_all, length-map-range_with_len, get_or-map-range_with_len}
@@ -13,7 +13,7 @@ use Rattle.tier_core.specs.{KindShapes.{free_count, stretch_count, kind_in, Fits
 use Rattle.tier_core.proofs.{TableMasks.free_tiers, Members.all_first}
 use Rattle.grammar_reader.proofs.{Shaping.{length-stretch_counts, count_rises}, OverTiers.over_tiers}
 use Rattle.violation.specs.{Conditions.{AreTiersBelow, IsOverTiers}, Moves.{is_tier_open, cut_kind}}
-use Rattle.violation.specs.{Phases.{is_left_open, AreClosedOr}, Prefixes.{kind_of, stretches, kind_of_bits}}
+use Rattle.violation.specs.{Phases.{AreClosedOr}, Prefixes.{stretches, kind_of_bits}}
 use Rattle.violation.specs.Problems.{Problem, last_stage, last_place}
 use Rattle.answer_text.specs.{declared.stage.Node.Node, declared.stage.Stage.Stage, Certified.IsPossibleKind}
 use Rattle.answer_text.specs.{Readable.IsReadableStage, Right.{nodes_at, kinds_at}}
@@ -46,7 +46,7 @@ agree_each : (n : ℕ) (f g : ℕ → Bool) → ((t : ℕ) → t < n → f t ≡
     → AllByRecursion (λ c. list_all (λ e. f e.tier) c.left ≡ list_all (λ e. g e.tier) c.left) cs
 agree_each n f g h [] over = tt
 agree_each n f g h (c ∷ cs) over = (
-  list_all_agree (λ e. f e.tier) (λ e. g e.tier) c.left (each_event n f g h c.left over.0.left_below),
+  list_all_agree _ _ _ (each_event n f g h _ over.0.left_below),
   agree_each n f g h cs over.1,
 )
 
@@ -58,17 +58,15 @@ module _ (s : Subject) (ready : IsReady s) (stage : ℕ) (within : stage ≤ las
   problem = problem_of s
 
   pub free_same : free_count shape ≡ length problem.tiers.free
-  free_same = ap (λ n. n - masked_count shape.inputs) ready.of_grammar.width
-      ∙ free_tiers s.grammar.now.tiers.kinds.items shape.inputs ready.of_grammar.inputs
+  free_same = ap (λ n. n - masked_count shape.inputs) ready.of_grammar.width ∙ free_tiers _ _ ready.of_grammar.inputs
 
   pub stage_in : stage < length shape.phases.items
   stage_in = omega (arith, ap length ready.of_grammar.phases, length-stretch_counts problem.constraints, within)
 
   pub stretch_same : stretch_count shape stage ≡ length (stretches problem stage)
   stretch_same =
-      ap (λ ns. get_or ns stage 0) ready.of_grammar.phases
-      ∙ get_or-map-range_with_len (λ i. length (filter is_stretch (take i problem.constraints))) 0
-      (last_stage problem + 1) stage stage 0 (omega (arith, within)) (omega arith)
+      ap (λ ns. get_or ns stage 0) ready.of_grammar.phases ∙ get_or-map-range_with_len _ 0 _ stage stage 0
+      (omega (arith, within)) (omega arith)
 
   pub tell_same : (k : Kind) → kind_in shape stage k ≡ kind_of_bits problem stage k
   tell_same k = ap₂ (λ m n. prefix_kind m n k) free_same stretch_same
@@ -111,23 +109,15 @@ module _ (s : Subject) (ready : IsReady s) (stage : ℕ) (within : stage ≤ las
     possible_by_mask = (
       λ a. record {
         place = place;
-        phases = closed_agree (all_open_in mask) (is_left_open problem (kind_of_bits problem stage kind))
-            (stretches problem stage) (phases (length (stretches problem stage)) kind)
-            (agree_each (length s.grammar.now.tiers.kinds.items) (has_tier mask)
-            (is_tier_open problem (kind_of_bits problem stage kind)) agree (stretches problem stage) over) a;
+        phases = closed_agree _ _ _ _ (agree_each _ _ _ agree _ over) a;
       },
-      λ p. closed_agree (is_left_open problem (kind_of_bits problem stage kind)) (all_open_in mask)
-          (stretches problem stage) (phases (length (stretches problem stage)) kind)
-          (agree_each (length s.grammar.now.tiers.kinds.items)
-          (is_tier_open problem (kind_of_bits problem stage kind)) (has_tier mask) (λ t l. sym (agree t l))
-          (stretches problem stage) over) p.phases,
+      λ p. closed_agree _ _ _ _ (agree_each _ _ _ (λ t l. sym (agree t l)) _ over) p.phases,
     )
 
   -- the kind of a node by its number
   pub kind_numbered : (n : ℕ) (d : Node) → n < length (stage_nodes s stage)
       → node_kind s stage n ≡ kind_of_bits problem stage (get_or (stage_nodes s stage) n d).kind
-  kind_numbered n d l = get_or-map (λ (node : Node). kind_of_bits problem stage node.kind) (stage_nodes s stage) n d
-      (kind_of problem stage []) l
+  kind_numbered n d l = get_or-map _ _ n d _ l
 
 -- ---- kinds that are cut
 
@@ -140,9 +130,8 @@ cut_phases k l m n w h =
       length-take-le m (phases n l)
           (omega (arith, w, length-map-range_with_len (phase_at l) 0 n)),
     ) in
-    sym (fill_by_all (phase_at k) (take m (phases n l)) m closed size
-    (λ i b. get_or-take m (phases n l) i closed b
-    ∙ get_or-map-range_with_len (phase_at l) 0 n i i closed (omega (arith, b, w)) (omega arith) ∙ sym (h i b)))
+    sym (fill_by_all (phase_at k) (take m (phases n l)) m closed size (λ i b. get_or-take m (phases n l) i _ b ∙
+    get_or-map-range_with_len _ 0 n i i closed (omega (arith, b, w)) (omega arith) ∙ sym (h i b)))
 
 kind_parts : (place : ℕ) (opened : List Bool) (ps qs : List Phase) → ps ≡ qs
     → (let k : PrefixKind = record { place = place; opened = opened; phases = ps } in k)
@@ -161,29 +150,26 @@ cut_told problem k l r s w p o h =
       opened = open_tiers (length problem.tiers.free) n;
       phases = phases (length (stretches problem r)) k;
     } in x) p o
-    ∙ kind_parts l.place (open_tiers (length problem.tiers.free) l.opened) (phases (length (stretches problem r)) k)
-    (take (length (stretches problem r)) (phases (length (stretches problem s)) l))
-    (cut_phases k l (length (stretches problem r)) (length (stretches problem s)) w h)
+    ∙ kind_parts _ _ _ _ (cut_phases k l _ _ w h)
 
 -- the nodes of a stage of the list of stages
 pub nodes_at_is : (stages : List Stage) (r : ℕ) (d : Stage) → r < length stages
     → (get_or stages r d).nodes.items ≡ nodes_at stages r
-nodes_at_is stages r d l = sym (get_or-map (λ (stage : Stage). stage.nodes.items) stages r d [] l)
+nodes_at_is stages r d l = sym (get_or-map _ _ r d [] l)
 
 module _ (s : Subject) (ready : IsReady s) (stage : ℕ) (within : stage ≤ last_stage (problem_of s)) where
   -- the nodes that code reads of a stage, and the kinds that they tell
   pub nodes_read : (ns : List Node) (st : Stage) → ns ≡ st.nodes.items
       → st ≡ get_or s.answer.now.stages.items stage st → ns ≡ stage_nodes s stage
-  nodes_read ns st e f = e ∙ ap (λ (x : Stage). x.nodes.items) f
-      ∙ nodes_at_is s.answer.now.stages.items stage st (in_stages s ready stage within)
+  nodes_read ns st e f = e ∙ ap (λ (x : Stage). x.nodes.items) f ∙ nodes_at_is _ _ st (in_stages s ready _ within)
 
   pub told_read : (ns : List Node) (st : Stage) → ns ≡ st.nodes.items → st ≡ get_or s.answer.now.stages.items stage st
       → told_in s.shape.now stage ns ≡ stage_kinds s stage
-  told_read ns st e f = told_same s ready stage within ns ∙ ap (kinds_at (problem_of s) stage) (nodes_read ns st e f)
+  told_read ns st e f = told_same s ready _ within ns ∙ ap (kinds_at (problem_of s) stage) (nodes_read ns st e f)
 
   pub fits_at : (n : ℕ) (d : Node) → n < length (stage_nodes s stage)
       → FitsShape s.shape.now stage (get_or (stage_nodes s stage) n d).kind
-  fits_at n d l = (readable_stage s ready stage within).fits n d l
+  fits_at n d l = (readable_stage s ready _ within).fits n d l
 
   -- a cut fits the stage before, and tells the cut of a kind
   pub cut_fits : (kind result : Kind) (count : ℕ) → 1 ≤ stage
@@ -192,9 +178,8 @@ module _ (s : Subject) (ready : IsReady s) (stage : ℕ) (within : stage ≤ las
       → FitsShape s.shape.now (stage - 1) result
   cut_fits kind result count some is fits opened below = record {
     within = omega (arith, fits.within);
-    opened = subst (λ n. n < 2 ^ free_count s.shape.now) (sym opened) fits.opened;
-    stretches = subst (λ n. AreStretchesBelow n result)
-        (is ∙ get_or_default s.shape.now.phases.items (stage - 1) count 0 (omega (arith, fits.within))) below;
+    opened = rw opened fits.opened;
+    stretches = rw (is ∙ get_or_default _ (stage - 1) count 0 (omega (arith, fits.within))) at below;
   }
 
   pub cut_before_told : (kind result : Kind) (count : ℕ) → 1 ≤ stage
@@ -205,32 +190,27 @@ module _ (s : Subject) (ready : IsReady s) (stage : ℕ) (within : stage ≤ las
       ≡ cut_kind (problem_of s) (stage - 1) (kind_of_bits (problem_of s) stage kind)
   cut_before_told kind result count some is place opened same =
       let before : stage - 1 ≤ last_stage (problem_of s) = omega (arith, within) in
-      let counted : count ≡ length (stretches (problem_of s) (stage - 1)) =
-      is ∙ get_or_default s.shape.now.phases.items (stage - 1) count 0 (stage_in s ready (stage - 1) before)
-      ∙ stretch_same s ready (stage - 1) before in
+      let counted =
+      is ∙ get_or_default _ _ _ 0 (stage_in s ready _ before) ∙ stretch_same s ready _ before in
       let rises : length (stretches (problem_of s) (stage - 1)) ≤ length (stretches (problem_of s) stage) =
-      subst (λ n. length (stretches (problem_of s) (stage - 1)) ≤ length (stretches (problem_of s) n))
-      (let e : stage - 1 + 1 ≡ stage = omega (arith, some) in e)
+      rw (let e : stage - 1 + 1 ≡ stage = omega (arith, some) in e) at
       (count_rises (problem_of s).constraints (stage - 1) (omega (arith, within, some))) in
-      cut_told (problem_of s) result kind (stage - 1) stage rises place opened
-      (λ i l. same i (omega (arith, l, counted)))
+      cut_told (problem_of s) result kind _ _ rises place opened (λ i l. same i (omega (arith, l, counted)))
 
   -- the kind of a node that code reads
   pub number_read : (ns : List Node) (n : ℕ) (d : Node) → ns ≡ stage_nodes s stage → n < length ns
       → kind_in s.shape.now stage (get_or ns n d).kind ≡ node_kind s stage n
   number_read ns n d e l =
-      ap (λ (xs : List Node). kind_in s.shape.now stage (get_or xs n d).kind) e
-      ∙ tell_same s ready stage within (get_or (stage_nodes s stage) n d).kind
-      ∙ sym (kind_numbered s ready stage within n d (omega (arith, l, ap length e)))
+      ap (λ (xs : List Node). kind_in s.shape.now stage (get_or xs n d).kind) e ∙ tell_same s ready _ within
+      (get_or (stage_nodes s stage) n d).kind ∙ sym (kind_numbered s ready _ within n d (omega (arith, l, ap length e)))
 
   pub number_bits : (ns : List Node) (n : ℕ) (d : Node) → ns ≡ stage_nodes s stage → n < length ns
       → kind_of_bits (problem_of s) stage (get_or ns n d).kind ≡ node_kind s stage n
-  number_bits ns n d e l = sym (tell_same s ready stage within (get_or ns n d).kind) ∙ number_read ns n d e l
+  number_bits ns n d e l = sym (tell_same s ready _ within (get_or ns n d).kind) ∙ number_read ns n d e l
 
   pub number_fits : (ns : List Node) (n : ℕ) (d : Node) → ns ≡ stage_nodes s stage → n < length ns
       → FitsShape s.shape.now stage (get_or ns n d).kind
-  number_fits ns n d e l = subst (λ (xs : List Node). FitsShape s.shape.now stage (get_or xs n d).kind) (sym e)
-      (fits_at n d (omega (arith, l, ap length e)))
+  number_fits ns n d e l = rw e (fits_at n d (omega (arith, l, ap length e)))
 
 -- a mask of the tiers that are open at a place tells those of a kind with this place
 pub mask_agrees : (s : Subject) → IsReady s → (stage : ℕ) (kind : Kind) → kind.place ≤ last_place (problem_of s)

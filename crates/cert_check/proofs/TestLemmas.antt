@@ -29,22 +29,19 @@ not_same false false e = refl
 
 no_edge : (es : List Event) (c : List Sym) → all_so NoEdge es c ≡ not (edge_among es c)
 no_edge [] c = refl
-no_edge (e ∷ es) c = ap (λ b. not (is_edge (symbol c e.tier)) && b) (no_edge es c)
-    ∙ none_of (is_edge (symbol c e.tier)) (edge_among es c)
+no_edge (e ∷ es) c = ap (λ b. not (is_edge (symbol c e.tier)) && b) (no_edge es c) ∙ none_of _ _
 
 absent : (es : List Event) (c : List Sym) → all_so Absent es c ≡ not (list_any (is_present c) es)
 absent [] c = refl
-absent (e ∷ es) c = ap (λ b. not (is_present c e) && b) (absent es c)
-    ∙ none_of (is_present c e) (list_any (is_present c) es)
+absent (e ∷ es) c = ap (λ b. not (is_present c e) && b) (absent es c) ∙ none_of _ _
 
 not_inside : (es : List Event) (c : List Sym) → all_so NotInside es c ≡ not (list_any (opens_interior c) es)
 not_inside [] c = refl
-not_inside (e ∷ es) c = ap (λ b. not (opens_interior c e) && b) (not_inside es c)
-    ∙ none_of (opens_interior c e) (list_any (opens_interior c) es)
+not_inside (e ∷ es) c = ap (λ b. not (opens_interior c e) && b) (not_inside es c) ∙ none_of _ _
 
 edge_alike : (es : List Event) (c d : List Sym) → all_so NoEdge es c ≡ all_so NoEdge es d
     → edge_among es c ≡ edge_among es d
-edge_alike es c d e = not_same (edge_among es c) (edge_among es d) (sym (no_edge es c) ∙ e ∙ no_edge es d)
+edge_alike es c d e = not_same _ _ (sym (no_edge es c) ∙ e ∙ no_edge es d)
 
 -- ---- costs
 
@@ -82,8 +79,7 @@ stretch_costs left right o phase c d h e =
     ∙ sym (ap (λ t. of t (edge_cost Implication left right d) (edge_among left d)) h)
 
 edges_left : (x : Constraint) → x.family ≡ Implication → is_stretch x ≡ false → has_edge_type x.left ≡ true
-edges_left x f h = not_same (has_edge_type x.left) true
-    (sym (ap (λ g. is_implication g && not (has_edge_type x.left)) f) ∙ h)
+edges_left x f h = not_same _ _ (sym (ap (λ g. is_implication g && not (has_edge_type x.left)) f) ∙ h)
 
 module _ (x : Constraint) (c d : List Sym) where
   abbrev CostsAlike : Family → Type 0
@@ -97,9 +93,9 @@ module _ (x : Constraint) (c d : List Sym) where
       → (all_so Present x.left c && all_so Absent x.right c) ≡ (all_so Present x.left d && all_so Absent x.right d)
       → AreAlikeFor x c d
   implication_alike f h e = record {
-    cost = subst CostsAlike (sym f) (λ o phase. implication_costs x.left x.right o phase c d (edges_left x f h)
-        (sym (ap (λ b. all_so Present x.left c && b) (absent x.right c)) ∙ e
-        ∙ ap (λ b. all_so Present x.left d && b) (absent x.right d)));
+    cost = subst CostsAlike (sym f) (λ o phase. implication_costs _ _ o _ c d (edges_left x f h) (sym
+        (ap (λ b. all_so Present x.left c && b) (absent _ c)) ∙ e ∙ ap (λ b. all_so Present x.left d && b)
+        (absent _ d)));
     next = no_next h;
   }
 
@@ -116,10 +112,9 @@ module _ (x : Constraint) (c d : List Sym) where
       → (all_so NoEdge x.left c && all_so NoEdge x.right c) ≡ (all_so NoEdge x.left d && all_so NoEdge x.right d)
       → AreAlikeFor x c d
   inside_clash_alike f h t e = record {
-    cost = subst CostsAlike (sym f) (λ o phase. clash_inside_costs x.left x.right o phase c d t
-        (edge_alike (x.left ++ x.right) c d
-        (list_all-append (λ v. is_so NoEdge v.part (symbol c v.tier)) x.left x.right ∙ e
-        ∙ sym (list_all-append (λ v. is_so NoEdge v.part (symbol d v.tier)) x.left x.right))));
+    cost = subst CostsAlike (sym f) (λ o phase. clash_inside_costs x.left x.right o phase c d t (edge_alike _ c d
+        (list_all-append (λ v. is_so NoEdge v.part (symbol c v.tier)) x.left x.right ∙ e ∙ sym
+        (list_all-append (λ v. is_so NoEdge v.part (symbol d v.tier)) x.left x.right))));
     next = no_next h;
   }
 
@@ -141,17 +136,13 @@ module _ (x : Constraint) (c d : List Sym) where
       → all_so NoEdge x.left c ≡ all_so NoEdge x.left d → all_so Absent x.right c ≡ all_so Absent x.right d
       → all_so NotInside x.right c ≡ all_so NotInside x.right d → AreAlikeFor x c d
   stretch_alike h opened edge present inside =
-      let edges : edge_among x.left c ≡ edge_among x.left d = edge_alike x.left c d edge in
-      let parts = and_parts (is_implication x.family) (not (has_edge_type x.left)) h in
+      let edges = edge_alike _ c d edge in
+      let parts = and_parts _ _ h in
       record {
-        cost = subst CostsAlike (sym (stretch_family x.family h))
-            (λ o phase. stretch_costs x.left x.right o phase c d
-            (not_same (has_edge_type x.left) false parts.1) edges);
-        next = λ e. stretch_next opened edges
-            (not_same (list_any (is_present c) x.right) (list_any (is_present d) x.right)
-            (sym (absent x.right c) ∙ present ∙ absent x.right d))
-            (not_same (list_any (opens_interior c) x.right) (list_any (opens_interior d) x.right)
-            (sym (not_inside x.right c) ∙ inside ∙ not_inside x.right d));
+        cost = subst CostsAlike (sym (stretch_family _ h))
+            (λ o phase. stretch_costs _ _ o _ c d (not_same _ _ parts.1) edges);
+        next = λ e. stretch_next opened edges (not_same _ _ (sym (absent _ c) ∙ present ∙ absent _ d))
+            (not_same _ _ (sym (not_inside x.right c) ∙ inside ∙ not_inside x.right d));
       }
 
 -- ---- lists of tests
@@ -179,7 +170,7 @@ pub adds_four : (width : ℕ) (old new : List Class) (s t u v : Class) (alike : 
     → has u c ≡ has u d → has v c ≡ has v d → alike c d) → AddsTests width old new alike
 adds_four width old new s t u v alike e ws wt wu wv h = record {
   added = s ∷ t ∷ u ∷ v ∷ [];
-  new_is = e ∙ four_pushed old s t u v;
+  new_is = e ∙ four_pushed _ s t u v;
   one_width = All-from_recursion (λ (x : Class). length (sets_of x) ≡ width) (s ∷ t ∷ u ∷ v ∷ [])
       (ws, (wt, (wu, (wv, tt))));
   told = λ c d lc ld agree. let a = recursion_from_All (λ (x : Class). has x c ≡ has x d)

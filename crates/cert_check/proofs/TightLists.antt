@@ -23,16 +23,15 @@ module _ (problem : Problem) (stages : List Stage) (stage : ℕ) (k : PrefixKind
         → AddsTight problem stages stage k class old new
     adds_no_tight e none = inl (
       e,
-      λ other h t. none (tight_same problem stages stage stage k other column
-          (alike_go_on problem stage below other column (alike other column h held)) (omega arith) t),
+      λ other h t. none
+          (tight_same _ _ _ _ k _ _ (alike_go_on _ _ below _ _ (alike other column h held)) (omega arith) t),
     )
 
     pub adds_tight : new ≡ old ++ class ∷ [] → IsTightAt problem stages stage k column
         → AddsTight problem stages stage k class old new
     adds_tight e tight = inr (
       e,
-      λ other h. tight_same problem stages stage stage k column other
-          (alike_go_on problem stage below column other (alike column other held h)) (omega arith) tight,
+      λ other h. tight_same _ _ _ _ k _ _ (alike_go_on _ _ below _ _ (alike column other held h)) (omega arith) tight,
     )
 
   -- so far the moves are tight on these, of the first classes of a list
@@ -47,13 +46,13 @@ module _ (problem : Problem) (stages : List Stage) (stage : ℕ) (k : PrefixKind
         → IsTightAt problem stages stage k column → IsTrue (some_has kept column)
 
   pub tight_of_none : (classes : List Class) (kept : List Class) → kept ≡ [] → TightOf classes 0 kept
-  tight_of_none classes kept e = subst (TightOf classes 0) (sym e) (record {
+  tight_of_none classes kept e = rw e (record {
     one_width = All-from_recursion (λ class. length (sets_of class) ≡ problem.tiers.width) [] tt;
     filled = All-from_recursion (λ class. IsTrue (is_filled class)) [] tt;
     few = λ column. omega arith;
     alike = All-from_recursion (IsAlikeTo problem stage) [] tt;
-    into = λ column h. absurd (both_ways false refl h);
-    back = λ column h t. absurd (both_ways false refl h);
+    into = λ column h. absurd (both_ways _ refl h);
+    back = λ column h t. absurd (both_ways _ refl h);
   })
 
   module _ (classes : List Class) (n : ℕ) (class : Class) (inside : n < length classes)
@@ -67,9 +66,8 @@ module _ (problem : Problem) (stages : List Stage) (stage : ℕ) (k : PrefixKind
 
     parts_more : (column : List Sym) → IsTrue (some_has (take (n + 1) classes) column)
         → IsTrue (some_has (take n classes) column) ⊎ IsTrue (has class column)
-    parts_more column h = ⊎_elim (λ front. inl front) (λ last. inr (last_of (has class column) last))
-        (or_cases (some_has (take n classes) column) (some_has (class ∷ []) column)
-        (sym (list_any-append (λ c. has c column) (take n classes) (class ∷ [])) ∙ sym (some_more column) ∙ h))
+    parts_more column h = ⊎_elim (λ front. inl front) (λ last. inr (last_of _ last))
+        (or_cases _ _ (sym (list_any-append (λ c. has c column) (take n classes) (class ∷ [])) ∙ sym (some_more _) ∙ h))
       where
         last_of : (b : Bool) → (b || false) ≡ true → b ≡ true
         last_of true e = refl
@@ -77,13 +75,12 @@ module _ (problem : Problem) (stages : List Stage) (stage : ℕ) (k : PrefixKind
 
     front_more : (column : List Sym) → IsTrue (some_has (take n classes) column)
         → IsTrue (some_has (take (n + 1) classes) column)
-    front_more column h = some_more column ∙ list_any-append (λ c. has c column) (take n classes) (class ∷ [])
-        ∙ or_left (some_has (take n classes) column) (some_has (class ∷ []) column) h
+    front_more column h = some_more _ ∙ list_any-append (λ c. has c column) (take n classes) (class ∷ []) ∙ or_left
+        (some_has (take n classes) column) (some_has (class ∷ []) column) h
 
     last_more : (column : List Sym) → IsTrue (has class column) → IsTrue (some_has (take (n + 1) classes) column)
-    last_more column h = some_more column ∙ list_any-append (λ c. has c column) (take n classes) (class ∷ [])
-        ∙ or_right (some_has (take n classes) column) (some_has (class ∷ []) column)
-        (or_left (has class column) false h)
+    last_more column h = some_more _ ∙ list_any-append (λ c. has c column) (take n classes) (class ∷ []) ∙ or_right
+        (some_has (take n classes) column) (some_has (class ∷ []) column) (or_left (has class column) false h)
 
     times_more : (column : List Sym) → times_held (take (n + 1) classes) column
         ≡ times_held (take n classes) column + times_held (class ∷ []) column
@@ -93,14 +90,14 @@ module _ (problem : Problem) (stages : List Stage) (stage : ℕ) (k : PrefixKind
     pub tight_of_same : new ≡ old
         → ((column : List Sym) → IsTrue (has class column) → IsTightAt problem stages stage k column → ⊥)
         → TightOf classes (n + 1) new
-    tight_of_same e none = subst (TightOf classes (n + 1)) (sym e) (record {
+    tight_of_same e none = rw e (record {
       one_width = so_far.one_width;
       filled = so_far.filled;
       few = λ column. omega (arith, so_far.few column, times_more column);
       alike = so_far.alike;
       into = λ column h. let r = so_far.into column h in (front_more column r.0, r.1);
       back = λ column h t. ⊎_elim (λ front. so_far.back column front t) (λ last. absurd (none column last t))
-          (parts_more column h);
+          (parts_more _ h);
     })
 
     -- a class on which they are tight
@@ -114,10 +111,8 @@ module _ (problem : Problem) (stages : List Stage) (stage : ℕ) (k : PrefixKind
         λ column. ap (λ xs. some_has xs column) e
         ∙ list_any-append (λ c. has c column) old (class ∷ []) in
         record {
-          one_width = subst (All (λ c. length (sets_of c) ≡ problem.tiers.width)) (sym e)
-              (All-push (λ c. length (sets_of c) ≡ problem.tiers.width) old class so_far.one_width wide);
-          filled = subst (All (λ c. IsTrue (is_filled c))) (sym e)
-              (All-push (λ c. IsTrue (is_filled c)) old class so_far.filled filled);
+          one_width = rw e (All-push (λ c. length (sets_of c) ≡ problem.tiers.width) old class so_far.one_width wide);
+          filled = rw e (All-push (λ c. IsTrue (is_filled c)) old class so_far.filled filled);
           few = λ column. omega (
             arith,
             so_far.few column,
@@ -127,17 +122,13 @@ module _ (problem : Problem) (stages : List Stage) (stage : ℕ) (k : PrefixKind
           );
           alike = subst (All (IsAlikeTo problem stage)) (sym e)
               (All-push (IsAlikeTo problem stage) old class so_far.alike alike);
-          into = λ column h. ⊎_elim
-              (λ front. let r = so_far.into column front in (front_more column r.0, r.1))
-              (λ last. let held : has class column ≡ true = last_of (has class column) last in
-              (last_more column held, tight column held))
-              (or_cases (some_has old column) (some_has (class ∷ []) column) (sym (some column) ∙ h));
+          into = λ column h. ⊎_elim (λ front. let r = so_far.into column front in (front_more _ r.0, r.1))
+              (λ last. let held = last_of _ last in
+              (last_more _ held, tight column held)) (or_cases _ _ (sym (some column) ∙ h));
           back = λ column h t. some column ∙ ⊎_elim
-              (λ front. or_left (some_has old column) (some_has (class ∷ []) column)
-              (so_far.back column front t))
-              (λ last. or_right (some_has old column) (some_has (class ∷ []) column)
-              (or_left (has class column) false last))
-              (parts_more column h);
+              (λ front. or_left (some_has old column) (some_has (class ∷ []) column) (so_far.back column front t)) (λ
+              last. or_right (some_has old column) (some_has (class ∷ []) column)
+              (or_left (has class column) false last)) (parts_more _ h);
         }
       where
         last_of : (b : Bool) → (b || false) ≡ true → b ≡ true
@@ -154,15 +145,14 @@ module _ (problem : Problem) (stages : List Stage) (stage : ℕ) (k : PrefixKind
   pub tight_of_all : (classes : List Class) (n : ℕ) (tight : List Class) → ArePieces problem.tiers.width classes
       → length classes ≤ n → TightOf classes n tight → AreTightAmong problem stages stage k classes tight
   tight_of_all classes n tight pieces l a =
-      let whole : take n classes ≡ classes = take_all n classes l in
+      let whole = take_all n _ l in
       record {
-        pieces = pieces_from_once problem.tiers.width tight a.one_width a.filled
-            (λ column. omega (
-              arith,
-              a.few column,
-              ap (λ xs. times_held xs column) whole,
-              once_from_apart classes pieces.apart column,
-            ));
+        pieces = pieces_from_once _ _ a.one_width a.filled (λ column. omega (
+          arith,
+          a.few column,
+          ap (λ xs. times_held xs column) whole,
+          once_from_apart classes pieces.apart column,
+        ));
         columns = λ column. (
           λ h. let r = a.into column h in (sym (ap (λ xs. some_has xs column) whole) ∙ r.0, r.1),
           λ r. a.back column (ap (λ xs. some_has xs column) whole ∙ r.0) r.1,
@@ -174,10 +164,9 @@ module _ (problem : Problem) (stages : List Stage) (stage : ℕ) (k : PrefixKind
   pub tight_among_none : (classes tight : List Class) → tight ≡ []
       → ((column : List Sym) → IsTightAt problem stages stage k column → ⊥)
       → AreTightAmong problem stages stage k classes tight
-  tight_among_none classes tight e none = subst (AreTightAmong problem stages stage k classes) (sym e) (record {
-    pieces = pieces_from_once problem.tiers.width []
-        (All-from_recursion (λ class. length (sets_of class) ≡ problem.tiers.width) [] tt)
+  tight_among_none classes tight e none = rw e (record {
+    pieces = pieces_from_once _ [] (All-from_recursion (λ class. length (sets_of class) ≡ problem.tiers.width) [] tt)
         (All-from_recursion (λ class. IsTrue (is_filled class)) [] tt) (λ column. omega arith);
-    columns = λ column. (λ h. absurd (both_ways false refl h), λ r. absurd (none column r.1));
+    columns = λ column. (λ h. absurd (both_ways _ refl h), λ r. absurd (none column r.1));
     alike = All-from_recursion (IsAlikeTo problem stage) [] tt;
   })

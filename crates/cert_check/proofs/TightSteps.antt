@@ -1,13 +1,13 @@
 -- Moves that are tight at a stage, by what is listed there.
 use Rattle.std.proofs.Common.{◌≡◌, ◌↔◌, ℕ, zero, suc, ◌+◌, ◌==◌, ◌<◌, ◌≤◌, ◌^◌, Bool, true, false, cond, IsTrue}
 use Rattle.std.proofs.Common.{List, [], ◌∷◌, length, filter, take, get_or, slice_get, Some, refl, sym, ap, ◌∙◌}
-use Rattle.std.proofs.{Common.{subst, arith, eq-eqb, eqb-true}, lemmas.Bool.false≢true}
+use Rattle.std.proofs.{Common.{arith, eq-eqb, eqb-true}, lemmas.Bool.false≢true}
 use Rattle.std.proofs.{lemmas.List.{get_or-map, get_or_default, length-map}, lemmas.List.Elements.Contains-get_or}
 use Rattle.std.proofs.lemmas.Option.{slice_get_within, get_or_from_slice_get}
 use Rattle.tier_core.specs.{declared.constraint.Constraint.Constraint, declared.kind.Kind.Kind, declared.sym.Sym.Sym}
 use Rattle.tier_core.specs.{Kinds.{AreStretchesBelow, PrefixKind, phase_at}, KindShapes.{FitsShape, free_count}}
 use Rattle.tier_core.specs.Sides.{is_stretch}
-use Rattle.violation.specs.{Moves.{next_kind, cost_of, cut_kind}, Prefixes.{kind_of_bits, stretches}}
+use Rattle.violation.specs.{Moves.{next_kind, cost_of, cut_kind}, Prefixes.{kind_of_bits}}
 use Rattle.violation.specs.Problems.{Problem, last_stage}
 use Rattle.answer_text.specs.{declared.stage.Node.Node, declared.stage.Stage.Stage, Right.{nodes_at, kinds_at}}
 use Rattle.answer_text.specs.Certified.{IsTightAt, Lists}
@@ -24,7 +24,7 @@ tight_same problem stages stage j k c d a l t = record {
   before = t.before;
   after = t.after;
   leaves = t.leaves;
-  arrives = subst (λ x. Lists problem stages j x t.after) (a.moves j (cut_kind problem j k) l) t.arrives;
+  arrives = rw (a.moves j (cut_kind problem j k) l) at t.arrives;
   falls = t.falls ∙ ap (λ n. n + t.after) (a.costs j (cut_kind problem j k) l);
 }
 
@@ -37,25 +37,24 @@ module _ (problem : Problem) (stages : List Stage) (j : ℕ) where
   lists_at k n p d e same =
       let inside : n < length (nodes_at stages j) = omega (
         arith,
-        slice_get_within (kinds_at problem j (nodes_at stages j)) n k e,
+        slice_get_within _ n k e,
         length-map (nodes_at stages j) (λ (node : Node). kind_of_bits problem j node.kind),
       ) in
       record {
         node = get_or (nodes_at stages j) n d;
         listed = Contains-get_or (nodes_at stages j) n d inside;
-        tells = sym (get_or-map (λ (node : Node). kind_of_bits problem j node.kind) (nodes_at stages j) n d k inside)
-            ∙ get_or_from_slice_get (kinds_at problem j (nodes_at stages j)) n k k e;
+        tells = sym (get_or-map _ _ n d k inside) ∙ get_or_from_slice_get _ n k k e;
         potential = sym same;
       }
 
   pub lists_there : (k : PrefixKind) (n p : ℕ) → slice_get (kinds_at problem j (nodes_at stages j)) n ≡ Some k
       → ((d : Node) → p ≡ (get_or (nodes_at stages j) n d).potential) → Lists problem stages j k p
-  lists_there k n p e same = by (nodes_at stages j) refl
+  lists_there k n p e same = by _ refl
     where
       by : (ns : List Node) → nodes_at stages j ≡ ns → Lists problem stages j k p
       by [] is = absurd (omega (
         arith,
-        slice_get_within (kinds_at problem j (nodes_at stages j)) n k e,
+        slice_get_within _ n k e,
         length-map (nodes_at stages j) (λ (node : Node). kind_of_bits problem j node.kind),
         ap (λ (xs : List Node). length xs) is,
       ))
@@ -77,13 +76,10 @@ module _ (s : Subject) (j : ℕ) (ascends : AscendsAt s j) (k : PrefixKind) (col
       after = after;
       leaves = leaves;
       arrives = arrives;
-      falls = eqb-true before (cost + after) h ∙ ap (λ n. n + after) e;
+      falls = eqb-true _ _ h ∙ ap (λ n. n + after) e;
     },
-    λ t. eq-eqb before (cost + after)
-        (let first = one_potential (problem_of s) j stages ascends (cut_kind (problem_of s) j k) before t.before leaves
-        t.leaves in
-        let last = one_potential (problem_of s) j stages ascends
-        (next_kind (problem_of s) j (cut_kind (problem_of s) j k) column) after t.after arrives t.arrives in
+    λ t. eq-eqb _ _ (let first = one_potential _ j _ ascends _ _ _ leaves t.leaves in
+        let last = one_potential _ j _ ascends _ _ _ arrives t.arrives in
         omega (arith, first, last, t.falls, e)),
   )
 
@@ -104,8 +100,7 @@ stretches_rise : (cs : List Constraint) (r n : ℕ) → r ≤ n
 stretches_rise cs zero n l = omega arith
 stretches_rise cs (suc r) zero l = absurd (omega arith)
 stretches_rise [] (suc r) (suc n) l = omega arith
-stretches_rise (c ∷ cs) (suc r) (suc n) l = counted (is_stretch c) c (filter is_stretch (take r cs))
-    (filter is_stretch (take n cs)) (stretches_rise cs r n (omega arith))
+stretches_rise (c ∷ cs) (suc r) (suc n) l = counted _ c _ _ (stretches_rise cs r n (omega arith))
 
 module _ (s : Subject) (ready : IsReady s) (stage j : ℕ) (within : stage ≤ last_stage (problem_of s))
     (earlier : j ≤ stage)
@@ -117,16 +112,15 @@ module _ (s : Subject) (ready : IsReady s) (stage j : ℕ) (within : stage ≤ l
   pub cut_fits_at : kind.opened < 2 ^ free_count s.shape.now → FitsShape s.shape.now j result
   cut_fits_at less = record {
     within = stage_in s ready j last;
-    opened = subst (λ n. n < 2 ^ free_count s.shape.now) (sym opened) less;
-    stretches = subst (λ n. AreStretchesBelow n result)
-        (is ∙ get_or_default s.shape.now.phases.items j count 0 (stage_in s ready j last)) below;
+    opened = rw opened less;
+    stretches = rw (is ∙ get_or_default _ j _ 0 (stage_in s ready j last)) at below;
   }
 
   pub cut_told_at : result.place ≡ kind.place → ((i : ℕ) → i < count → phase_at result i ≡ phase_at kind i)
       → kind_of_bits (problem_of s) j result ≡ cut_kind (problem_of s) j (kind_of_bits (problem_of s) stage kind)
   cut_told_at place same =
-      let number : count ≡ length (stretches (problem_of s) j) =
-      is ∙ get_or_default s.shape.now.phases.items j count 0 (stage_in s ready j last) ∙ stretch_same s ready j last in
+      let number =
+      is ∙ get_or_default _ j _ 0 (stage_in s ready j last) ∙ stretch_same s ready j last in
       cut_told (problem_of s) result kind j stage (stretches_rise (problem_of s).constraints j stage earlier) place
       opened (λ i l. same i (omega (arith, l, number)))
 
@@ -134,7 +128,7 @@ module _ (s : Subject) (ready : IsReady s) (stage j : ℕ) (within : stage ≤ l
 pub tells_fit : (s : Subject) → IsReady s → (stage : ℕ) → stage ≤ last_stage (problem_of s) → (kind : Kind)
     (k : PrefixKind) → TellsKind (problem_of s) stage kind k → FitsShape s.shape.now stage kind
 tells_fit s ready stage within kind k t = record {
-  within = stage_in s ready stage within;
-  opened = subst (λ n. kind.opened < 2 ^ n) (sym (free_same s ready stage within)) t.opened;
-  stretches = subst (λ n. AreStretchesBelow n kind) (sym (stretch_same s ready stage within)) t.stretches;
+  within = stage_in s ready _ within;
+  opened = rw ((free_same s ready stage within)) t.opened;
+  stretches = rw ((stretch_same s ready stage within)) t.stretches;
 }

@@ -29,11 +29,11 @@ pub parted_more : (width : ℕ) (tests : List Class) (n : ℕ) (test : Class) (w
     → ArePartedByTests width (take n tests) wholes parts → ArePartedBy w (differs difference) parts new
     → ArePartedByTests width (take (n + 1) tests) wholes new
 parted_more width tests n test wholes parts new w difference l is same told a b = record {
-  pieces = subst (λ m. ArePieces m new) same b.pieces;
-  columns = λ column. some_from_same new parts column (b.held column) ∙ a.columns column;
+  pieces = rw same at b.pieces;
+  columns = λ column. some_from_same _ _ _ (b.held column) ∙ a.columns column;
   within = λ k d inside.
       let p = b.within k d inside in
-      let q : IsPartOf wholes p.whole = of_listed (IsPartOf wholes) parts p.whole a.within p.listed in
+      let q = of_listed (IsPartOf wholes) _ p.whole a.within p.listed in
       record { whole = q.whole; listed = q.listed; within = λ column h. q.within column (p.within column h) };
   uniform = λ k d inside x y hx hy.
       let p = b.within k d inside in

@@ -1,21 +1,14 @@
-use Rattle.std.proofs.Common.{◌≡◌, ℕ, ◌<◌, arith}
-use Rattle.tier_core.specs.{Scan.opens, Timelines.symbol}
+use Rattle.std.proofs.Common.{arith}
 use Rattle.cert_check.proofs.GoAlike.{adds_no_tests, adds_weaker, open_more}
 use Rattle.cert_check.proofs.column_tests.push_open_tests.Goals as goal
 
 pub loop-tier-init : goal.loop-tier-init
-loop-tier-init c = adds_no_tests c.args.width c.args.tests.now.items
-    (λ c d. (t : ℕ) → t < 0 → opens (symbol c t) ≡ opens (symbol d t)) (λ c d t l. absurd (omega arith))
+loop-tier-init c = adds_no_tests _ _ _ (λ c d t l. absurd (omega arith))
 
 pub loop-tier-preserved : goal.loop-tier-preserved
 loop-tier-preserved c =
-    open_more c.args.width c.args.tests.now.items c.loop-tier.tests.items c.push.new.self.items c.open_after.result
-    c.loop-tier.tier c.loop-tier.invariant c.in_ok-push.ensures.items c.open_after.ensures.width
+    open_more _ _ _ _ _ _ c.loop-tier.invariant c.in_ok-push.ensures.items c.open_after.ensures.width
     c.open_after.ensures.columns
 
 pub returns : goal.returns
-returns c =
-    adds_weaker c.args.width c.args.tests.now.items c.loop-tier.tests.items
-    (λ x y. (t : ℕ) → t < c.loop-tier.tier → opens (symbol x t) ≡ opens (symbol y t))
-    (λ x y. (t : ℕ) → t < c.args.width → opens (symbol x t) ≡ opens (symbol y t))
-    (λ x y h t l. h t (omega (arith, l, c.loop-tier-test.false))) c.loop-tier.invariant
+returns c = adds_weaker _ _ _ _ _ (λ x y h t l. h t (omega (arith, l, c.loop-tier-test.false))) c.loop-tier.invariant

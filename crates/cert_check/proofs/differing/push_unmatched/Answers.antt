@@ -1,14 +1,9 @@
-use Rattle.std.proofs.Common.{◌&&◌, not, arith}
-use Rattle.tier_core.specs.Classes.{has}
-use Rattle.cert_check.specs.Arcs.{is_led}
+use Rattle.std.proofs.Common.{arith}
 use Rattle.cert_check.proofs.Gathering.{arc_more}
 use Rattle.cert_check.proofs.differing.push_unmatched.Goals as goal
 
 pub loop-arc-preserved : goal.loop-arc-preserved
 loop-arc-preserved c = record {
   within = omega (arith, c.loop-arc-test.true);
-  adds = arc_more c.args.pieces.now.items c.loop-arc.pieces.items c.push_rest.new.pieces.items
-      (λ arc column. has arc.class column && not (is_led c.args.others.now arc.target column)) c.args.arcs.now
-      c.loop-arc.arc-index c.arc-item.result c.loop-arc-test.true c.arc-item.is c.loop-arc.invariant.adds
-      c.in_ok-push_rest.ensures;
+  adds = arc_more _ _ _ _ _ _ _ c.loop-arc-test.true c.arc-item.is c.loop-arc.invariant.adds c.in_ok-push_rest.ensures;
 }

@@ -8,5 +8,4 @@ returns c =
     let facts = c.binary_search_by_key.ensures in
     let by_key = facts.position (λ (state : StateLine). state.node)
     (answers_always _ _ _ (λ f a r g called. search rules)) in
-    rw c.is_ok.ensures.value (told (λ (state : StateLine). state.node) c.args.number c.args.states.now c.requires _
-    facts.bound by_key)
+    rw c.is_ok.ensures.value (told _ _ _ c.requires _ facts.bound by_key)

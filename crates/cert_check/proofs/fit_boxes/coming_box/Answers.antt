@@ -1,5 +1,5 @@
 use Rattle.std.proofs.Common.{ap, ◌∙◌}
-use Rattle.tier_core.specs.{Classes.has, Scan.fits, Sets.is_in, Tiers.has_tier, Timelines.symbol}
+use Rattle.tier_core.specs.{Scan.fits, Timelines.symbol}
 use Rattle.cert_check.proofs.FitSteps.{tier_more}
 use Rattle.cert_check.proofs.fit_boxes.coming_box.Goals as goal
 
@@ -8,9 +8,7 @@ loop-tier-preserved c =
     let tier = c.loop-tier.tier in
     record {
       width = c.restrict-class.ensures.width ∙ c.loop-tier.invariant.width;
-      columns = λ column l. tier_more (has c.restrict-class.result column) (has c.loop-tier.class column)
-          (is_in c.next_set.result (symbol column tier)) (λ t. fits (has_tier c.args.mask t) (symbol column t)) tier
-          (c.restrict-class.ensures.columns column)
+      columns = λ column l. tier_more _ _ _ _ _ (c.restrict-class.ensures.columns column)
           (c.next_set.ensures.symbols (symbol column tier) ∙ ap (λ b. fits b (symbol column tier)) c.has_bit.ensures)
           (c.loop-tier.invariant.columns column l);
     }

@@ -1,16 +1,12 @@
-use Rattle.std.proofs.Common.{not, ◌∙◌}
-use Rattle.tier_core.specs.{Classes.has, Sets.is_in, Timelines.{symbol, is_edge}}
+use Rattle.std.proofs.Common.{◌∙◌}
 use Rattle.tier_core.proofs.KnownSets.{in_edgeless}
 use Rattle.cert_check.proofs.FitSteps.{tier_more}
 use Rattle.cert_check.proofs.fit_boxes.edgeless_box.Goals as goal
 
 pub loop-tier-preserved : goal.loop-tier-preserved
 loop-tier-preserved c =
-    let tier = c.loop-tier.tier in
     record {
       width = c.restrict-class.ensures.width ∙ c.loop-tier.invariant.width;
-      columns = λ column l. tier_more (has c.restrict-class.result column) (has c.loop-tier.class column)
-          (is_in 3 (symbol column tier)) (λ t. not (is_edge (symbol column t))) tier
-          (c.restrict-class.ensures.columns column) (in_edgeless (symbol column tier))
+      columns = λ column l. tier_more _ _ _ _ _ (c.restrict-class.ensures.columns column) (in_edgeless _)
           (c.loop-tier.invariant.columns column l);
     }

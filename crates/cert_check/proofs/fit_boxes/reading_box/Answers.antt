@@ -1,5 +1,5 @@
-use Rattle.std.proofs.Common.{◌≡◌, ◌+◌, ℕ, cond, true, false, length, ap, sym, ◌∙◌, arith}
-use Rattle.tier_core.specs.{Classes.has, Tiers.{is_input, kind_at}, declared.tier.TierKind.TheVariants.Input}
+use Rattle.std.proofs.Common.{◌≡◌, ℕ, cond, length, ap, sym, ◌∙◌, arith}
+use Rattle.tier_core.specs.{Classes.has, declared.tier.TierKind.TheVariants.Input}
 use Rattle.violation.proofs.InputParts.{reads_more, reads_same, reads_all}
 use Rattle.cert_check.specs.Opens.{inputs_before}
 use Rattle.cert_check.proofs.Opens.{inputs_more, inputs_in, all_inputs}
@@ -9,11 +9,11 @@ use Rattle.cert_check.proofs.fit_boxes.reading_box.Goals as goal
 pub bounds-form-next : goal.bounds-form-next
 bounds-form-next c =
     let kinds = c.args.kinds.now in
-    let here : is_input (kind_at kinds c.loop-tier.tier) ≡ true = sym c.is_input.ensures ∙ c.if-is_input.true in
+    let here = sym c.is_input.ensures ∙ c.if-is_input.true in
     omega (
       arith,
       c.loop-tier.invariant.count,
-      inputs_in kinds c.loop-tier.tier c.loop-tier-test.true here,
+      inputs_in _ c.loop-tier.tier c.loop-tier-test.true here,
       all_inputs kinds,
       c.requires.form,
     )
@@ -25,14 +25,13 @@ pub loop-tier-preserved : goal.loop-tier-preserved
 loop-tier-preserved c =
     let kinds = c.args.kinds.now in
     let form = c.args.form.now in
-    let tier : ℕ = c.loop-tier.tier in
-    let next : ℕ = c.loop-tier.next in
-    let step : inputs_before kinds (tier + 1)
-    ≡ inputs_before kinds tier + cond (is_input (kind_at kinds tier)) 1 0 =
+    let tier = c.loop-tier.tier in
+    let next = c.loop-tier.next in
+    let step =
     inputs_more kinds tier c.loop-tier-test.true in
     elim c.if-is_input.branch [
       | then-is_input w ↦
-          let is : is_input (kind_at kinds tier) ≡ true = sym c.is_input.ensures ∙ w.if-is_input.true in
+          let is = sym c.is_input.ensures ∙ w.if-is_input.true in
           rw (w.class-is, w.next-is) (record {
             width = w.restrict-class.ensures.width ∙ c.loop-tier.invariant.width;
             count = omega (arith, c.loop-tier.invariant.count, step, ap {B = ℕ} (λ b. cond b 1 0) is);
@@ -50,7 +49,7 @@ loop-tier-preserved c =
                 (c.loop-tier.invariant.columns column l);
           })
       | else-is_input w ↦
-          let is : is_input (kind_at kinds tier) ≡ false = sym c.is_input.ensures ∙ w.if-is_input.false in
+          let is = sym c.is_input.ensures ∙ w.if-is_input.false in
           rw (w.class-is, w.next-is) (record {
             width = c.loop-tier.invariant.width;
             count = omega (arith, c.loop-tier.invariant.count, step, ap {B = ℕ} (λ b. cond b 1 0) is);
@@ -63,9 +62,7 @@ loop-tier-preserved c =
 pub returns-clause-columns : goal.returns-clause-columns
 returns-clause-columns c column l =
     let kinds = c.args.kinds.now in
-    reads_all (has c.loop-tier.class column) kinds column c.args.form.now c.loop-tier.tier c.loop-tier.next
-    c.loop-tier-test.false
-    (omega (
+    reads_all _ _ _ c.args.form.now c.loop-tier.tier c.loop-tier.next c.loop-tier-test.false (omega (
       arith,
       c.loop-tier.invariant.count,
       c.requires.form,

@@ -1,27 +1,17 @@
-use Rattle.std.proofs.Common.{◌≡◌, ℕ, IfErr, List, sym, ap, ◌∙◌, subst, All}
+use Rattle.std.proofs.Common.{List, ap, ◌∙◌}
 use Rattle.tier_core.specs.declared.constraint.Constraint.{Constraint}
-use Rattle.violation.specs.{Conditions.IsCountable, Candidates.{vec, counts_on}}
-use Rattle.cert_check.specs.{FirstFaults.{asked_by, IsFirstFault}, Heads.IsFirstCountFault, Stops.StopsBy}
+use Rattle.violation.specs.{Candidates.{vec}}
 use Rattle.cert_check.proofs.{Heads.first_counts, Stops.stops_say}
 use Rattle.grammar_reader.proofs.OverTiers.{all_countable}
 use Rattle.cert_check.proofs.head.check_counts.Goals as goal
 
 pub vector-requires-clause-countable : goal.vector-requires-clause-countable
 vector-requires-clause-countable c =
-    subst (λ (cs : List Constraint). All (λ k. IsCountable k.left k.right c.args.answer.now.example) cs)
-    (sym c.deref.ensures.value)
-    (all_countable c.args.grammar.now c.args.answer.now.example c.requires.example.well_formed)
+    rw c.deref.ensures.value (all_countable c.args.grammar.now _ c.requires.example.well_formed)
 
 pub returns-clause-err : goal.returns-clause-err
 returns-clause-err c =
-    let problem = asked_by c.args.grammar.now c.args.answer.now in
-    let counted : List ℕ = c.in_ok-counted.counted.items in
-    let is : counted ≡ counts_on problem c.args.answer.now.example = c.in_ok-counted.ensures
-    ∙ ap (λ (cs : List Constraint). vec cs c.args.answer.now.example) c.deref.ensures.value in
-    stops_say c.compare_counts.result (IsFirstCountFault c.args.answer.now.counts.items counted)
-    (IsFirstFault problem c.args.answer.now)
-    (first_counts problem c.args.answer.now c.requires.form c.requires.numbers c.requires.example counted is)
-    (subst (λ (v : List ℕ). IfErr c.compare_counts.result
-    (StopsBy (IsFirstCountFault v counted))) c.deref-2.ensures.value
-    (subst (λ (v : List ℕ). IfErr c.compare_counts.result
-    (StopsBy (IsFirstCountFault c.deref-2.result.now v))) c.deref-3.ensures.value c.compare_counts.ensures.err))
+    let is = c.in_ok-counted.ensures ∙ ap (λ (cs : List Constraint). vec cs c.args.answer.now.example)
+    c.deref.ensures.value in
+    stops_say _ _ _ (first_counts _ _ c.requires.form c.requires.numbers c.requires.example _ is)
+    (rw c.deref-2.ensures.value at (rw c.deref-3.ensures.value at c.compare_counts.ensures.err))

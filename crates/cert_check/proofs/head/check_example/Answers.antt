@@ -1,5 +1,4 @@
 use Rattle.std.proofs.Common.{sym, ◌∙◌, true≢false}
-use Rattle.cert_check.specs.FirstFaults.{asked_by}
 use Rattle.cert_check.proofs.Heads.{first_example}
 use Rattle.cert_check.proofs.head.check_example.Goals as goal
 
@@ -9,6 +8,5 @@ returns-then-is_candidate-clause-ok c =
 
 pub returns-else-is_candidate-clause-err : goal.returns-else-is_candidate-clause-err
 returns-else-is_candidate-clause-err c =
-    first_example (asked_by c.args.grammar.now c.args.answer.now) c.args.answer.now c.requires.form c.requires.numbers
-    (λ w. true≢false (sym ((c.is_candidate.ensures c.args.grammar.now.constraints.items).1 w)
-    ∙ c.if-is_candidate.false))
+    first_example _ _ c.requires.form c.requires.numbers (λ w. true≢false
+    (sym ((c.is_candidate.ensures c.args.grammar.now.constraints.items).1 w) ∙ c.if-is_candidate.false))

@@ -1,45 +1,29 @@
-use Rattle.std.proofs.Common.{◌≡◌, IsTrue, length, sym, subst}
-use Rattle.tier_core.specs.{declared.class.Class.Class, Classes.sets_of, Filled.is_filled}
-use Rattle.violation.specs.Prefixes.{kind_of_bits}
 use Rattle.violation.proofs.SplitLemmas.{tiers_split}
 use Rattle.cert_check.specs.{Pruned.IsAlikeTo, Subjects.problem_of}
 use Rattle.cert_check.proofs.{KeptSteps.{kept_of_none, kept_of_more, kept_of_all}, PrunedSteps.alike_go_on}
 use Rattle.cert_check.proofs.kept.kept_of.Goals as goal
 
 pub loop-class-init : goal.loop-class-init
-loop-class-init c =
-    let s = c.args.subject.now in
-    kept_of_none (problem_of s) c.args.stage (kind_of_bits (problem_of s) c.args.stage c.args.kind.now)
-    c.new-kept.result.items c.new-kept.ensures.items
+loop-class-init c = kept_of_none _ _ _ _ c.new-kept.ensures.items
 
 pub push_kept-requires-clause-width : goal.push_kept-requires-clause-width
 push_kept-requires-clause-width c =
-    subst (λ (x : Class). length (sets_of x) ≡ (problem_of c.args.subject.now).tiers.width) (sym c.class-item.is)
-    (c.requires.width c.loop-class.class-index c.class-item.result c.loop-class-test.true)
+    rw c.class-item.is (c.requires.width c.loop-class.class-index c.class-item.result c.loop-class-test.true)
 
 pub push_kept-requires-clause-filled : goal.push_kept-requires-clause-filled
 push_kept-requires-clause-filled c =
-    subst (λ (x : Class). IsTrue (is_filled x)) (sym c.class-item.is)
-    (c.requires.filled c.loop-class.class-index c.class-item.result c.loop-class-test.true)
+    rw c.class-item.is (c.requires.filled c.loop-class.class-index c.class-item.result c.loop-class-test.true)
 
 pub push_kept-requires-clause-alike : goal.push_kept-requires-clause-alike
 push_kept-requires-clause-alike c =
     let s = c.args.subject.now in
     let alike : IsAlikeTo (problem_of s) c.args.stage c.class-item.result =
-    subst (λ (x : Class). IsAlikeTo (problem_of s) c.args.stage x) (sym c.class-item.is)
-    (c.requires.alike c.loop-class.class-index c.class-item.result c.loop-class-test.true) in
-    λ x y hx hy. alike_go_on (problem_of s) c.args.stage (tiers_split s.grammar.now.tiers.kinds.items).free_below
-    x y (alike x y hx hy)
+    rw c.class-item.is (c.requires.alike c.loop-class.class-index c.class-item.result c.loop-class-test.true) in
+    λ x y hx hy. alike_go_on _ _ (tiers_split s.grammar.now.tiers.kinds.items).free_below x y (alike x y hx hy)
 
 pub loop-class-preserved : goal.loop-class-preserved
 loop-class-preserved c =
-    let s = c.args.subject.now in
-    kept_of_more (problem_of s) c.args.stage (kind_of_bits (problem_of s) c.args.stage c.args.kind.now)
-    c.args.pieces.now c.loop-class.class-index c.class-item.result c.loop-class-test.true c.class-item.is
-    c.loop-class.kept.items c.push_kept.new.kept.items c.loop-class.invariant c.in_ok-push_kept.ensures
+    kept_of_more _ _ _ _ _ _ c.loop-class-test.true c.class-item.is _ _ c.loop-class.invariant c.in_ok-push_kept.ensures
 
 pub returns : goal.returns
-returns c =
-    let s = c.args.subject.now in
-    kept_of_all (problem_of s) c.args.stage (kind_of_bits (problem_of s) c.args.stage c.args.kind.now)
-    c.args.pieces.now c.loop-class.class-index c.loop-class.kept.items c.loop-class-test.false c.loop-class.invariant
+returns c = kept_of_all _ _ _ _ _ _ c.loop-class-test.false c.loop-class.invariant

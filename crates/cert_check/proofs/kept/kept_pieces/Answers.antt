@@ -1,20 +1,13 @@
-use Rattle.std.proofs.Common.{List, sym, subst, All}
-use Rattle.tier_core.specs.declared.class.Class.{Class}
 use Rattle.violation.specs.Prefixes.{kind_of_bits}
-use Rattle.cert_check.specs.{Kept.AreKeptOf, Pruned.IsAlikeTo, Subjects.problem_of}
+use Rattle.cert_check.specs.{Subjects.problem_of}
 use Rattle.cert_check.proofs.KeptSteps.{kept_from_pruned}
 use Rattle.cert_check.proofs.kept.kept_pieces.Goals as goal
 
 pub kept_of-requires-clause-alike : goal.kept_of-requires-clause-alike
-kept_of-requires-clause-alike c =
-    subst (λ (xs : List Class). All (IsAlikeTo (problem_of c.args.subject.now) c.args.stage) xs)
-    (sym c.deref.ensures.value) (c.in_ok-pieces.ensures).alike
+kept_of-requires-clause-alike c = rw c.deref.ensures.value (c.in_ok-pieces.ensures).alike
 
 pub returns-in-Ok : goal.returns-in-Ok
 returns-in-Ok c =
     let s = c.args.subject.now in
     let k = kind_of_bits (problem_of s) c.args.stage c.args.kind.now in
-    kept_from_pruned (problem_of s) c.args.stage k s.answer.now.stages.items c.args.below c.in_ok-pieces.pieces.items
-    c.in-Ok.kept.items c.requires.below c.in_ok-pieces.ensures
-    (subst (λ (xs : List Class). AreKeptOf (problem_of s) c.args.stage k xs c.in-Ok.kept.items)
-    c.deref.ensures.value c.in-Ok.ensures)
+    kept_from_pruned _ _ k _ _ _ _ c.requires.below c.in_ok-pieces.ensures (rw c.deref.ensures.value at c.in-Ok.ensures)

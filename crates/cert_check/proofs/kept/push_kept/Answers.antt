@@ -1,5 +1,5 @@
-use Rattle.std.proofs.Common.{List, IsTrue, refl, sym, subst}
-use Rattle.tier_core.specs.{declared.sym.Sym.Sym, Classes.has}
+use Rattle.std.proofs.Common.{IsTrue, refl, sym}
+use Rattle.tier_core.specs.{Classes.has}
 use Rattle.violation.specs.Prefixes.{kind_of_bits}
 use Rattle.cert_check.specs.Subjects.{problem_of}
 use Rattle.cert_check.proofs.KeptSteps.{adds_kept}
@@ -10,8 +10,6 @@ returns c =
     let s = c.args.subject.now in
     let k = kind_of_bits (problem_of s) c.args.stage c.args.kind.now in
     let held : IsTrue (has c.args.class.now c.syms-column.result.now) =
-    subst (λ (column : List Sym). IsTrue (has c.args.class.now column)) (sym c.syms-column.ensures.value)
-    (c.least_column-least.ensures.held c.requires.filled) in
-    adds_kept (problem_of s) c.args.stage k c.args.class.now c.syms-column.result.now c.args.kept.now.items
-    c.push.new.self.items _ c.requires.alike held c.in_ok-push.ensures.items refl c.next_kind-target.ensures
+    rw c.syms-column.ensures.value (c.least_column-least.ensures.held c.requires.filled) in
+    adds_kept _ _ k _ _ _ _ _ c.requires.alike held c.in_ok-push.ensures.items refl c.next_kind-target.ensures
     (sym c.cost-cost.ensures.cost) c.cost-cost.ensures.few

@@ -6,10 +6,8 @@ pub loop-piece-preserved : goal.loop-piece-preserved
 loop-piece-preserved c =
     let s = c.args.subject.now in
     record {
-      classes = classes_more s c.args.stage c.args.pieces.now c.loop-piece.piece-index c.piece-item.result
-          c.loop-piece-test.true c.piece-item.is c.loop-piece.arcs.items c.push.new.self.items _
+      classes = classes_more s c.args.stage _ _ _ c.loop-piece-test.true c.piece-item.is _ _ _
           c.in_ok-push.ensures.items refl c.loop-piece.invariant.classes;
-      each = each_more s c.args.stage c.args.pieces.now c.loop-piece.piece-index c.piece-item.result
-          c.loop-piece-test.true c.piece-item.is c.loop-piece.arcs.items c.push.new.self.items _
-          c.in_ok-push.ensures.items refl c.node_number.ensures c.loop-piece.invariant.each;
+      each = each_more s _ _ _ _ c.loop-piece-test.true c.piece-item.is _ _ _ c.in_ok-push.ensures.items refl
+          c.node_number.ensures c.loop-piece.invariant.each;
     }

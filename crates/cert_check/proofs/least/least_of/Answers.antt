@@ -1,6 +1,5 @@
-use Rattle.std.proofs.{Common.{IsTrue, arith, sym, subst, refl}, lemmas.List.take_all}
-use Rattle.tier_core.specs.{declared.class.Class.Class, Filled.is_filled}
-use Rattle.cert_check.proofs.LeastColumns.{IsLeastOf, least_more}
+use Rattle.std.proofs.{Common.{arith, refl}, lemmas.List.take_all}
+use Rattle.cert_check.proofs.LeastColumns.{least_more}
 use Rattle.cert_check.proofs.least.least_of.Goals as goal
 
 pub loop-class-init : goal.loop-class-init
@@ -11,15 +10,11 @@ loop-class-preserved c =
     let class = c.class-item.result in
     record {
       within = omega (arith, c.loop-class-test.true);
-      least = least_more c.args.classes.now c.loop-class.class-index class c.loop-class-test.true c.class-item.is
-          c.least_column.result
-          (c.least_column.ensures.held (subst (λ (x : Class). IsTrue (is_filled x)) (sym c.class-item.is)
-          (c.requires c.loop-class.class-index class c.loop-class-test.true)))
-          c.least_column.ensures.least c.loop-class.least c.lesser_of.result c.loop-class.invariant.least
-          c.lesser_of.ensures;
+      least = least_more _ _ _ c.loop-class-test.true c.class-item.is _ (c.least_column.ensures.held
+          (rw c.class-item.is (c.requires c.loop-class.class-index class c.loop-class-test.true)))
+          c.least_column.ensures.least _ _ c.loop-class.invariant.least c.lesser_of.ensures;
     }
 
 pub returns : goal.returns
-returns c = subst (λ classes. IsLeastOf classes c.loop-class.least)
-    (take_all c.loop-class.class-index c.args.classes.now (omega (arith, c.loop-class-test.false)))
+returns c = rw (take_all c.loop-class.class-index c.args.classes.now (omega (arith, c.loop-class-test.false))) at
     c.loop-class.invariant.least

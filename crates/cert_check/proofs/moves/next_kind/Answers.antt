@@ -1,8 +1,7 @@
-use Rattle.std.proofs.Common.{◌≡◌, ℕ, ◌<◌, take, length, length-take, get_or, ap, sym, ◌∙◌, subst, arith}
+use Rattle.std.proofs.Common.{ℕ, ◌<◌, take, length, length-take, get_or, ap, ◌∙◌, arith}
 use Rattle.std.proofs.{lemmas.List.get_or-take, lemmas.List.Elements.All-from_recursion}
-use Rattle.tier_core.specs.{declared.constraint.Constraint.Constraint, Tiers.{is_free, is_input, numbers_from}}
+use Rattle.tier_core.specs.{declared.constraint.Constraint.Constraint, Tiers.{numbers_from}}
 use Rattle.violation.specs.Conditions.{IsOverTiers}
-use Rattle.cert_check.specs.Subjects.{problem_of}
 use Rattle.grammar_reader.proofs.OverTiers.{over_tiers}
 use Rattle.cert_check.proofs.MovedSteps.{moved_told}
 use Rattle.cert_check.proofs.moves.next_kind.Goals as goal
@@ -11,26 +10,20 @@ pub with_phases-requires-clause-over : goal.with_phases-requires-clause-over
 with_phases-requires-clause-over c k d l =
     let g = c.args.subject.now.grammar.now in
     let xs = c.as_slice.result.now in
-    let same : xs ≡ g.constraints.items = c.as_slice.ensures.value in
+    let same = c.as_slice.ensures.value in
     let size = length-take c.args.stage xs in
     let within : k < c.args.stage = omega (arith, l, size) in
     let below : k < length g.constraints.items = omega (arith, l, size, ap length same) in
-    let at : get_or (take c.args.stage xs) k d ≡ get_or g.constraints.items k d =
-    get_or-take c.args.stage xs k d within ∙ ap (λ ys. get_or ys k d) same in
+    let at =
+    get_or-take _ xs k d within ∙ ap (λ ys. get_or ys k d) same in
     let Over : ℕ → Constraint → Type 0 = λ w x. IsOverTiers w x in
-    subst (Over (length c.args.column.now)) (sym at)
-    (subst (λ w. Over w (get_or g.constraints.items k d)) (sym c.requires.width)
+    rw at (rw c.requires.width
     (All-from_recursion (IsOverTiers (length g.tiers.kinds.items)) g.constraints.items (over_tiers g) k d below))
 
 pub returns : goal.returns
 returns c =
-    let s = c.args.subject.now in
-    let kinds = c.as_slice-kinds.result.now in
     let same = c.as_slice-kinds.ensures.value in
-    moved_told (problem_of s) c.args.stage c.args.kind.now c.with_phases.result c.args.column.now
-    (numbers_from is_input 0 kinds) (numbers_from is_free 0 kinds) (take c.args.stage c.as_slice.result.now)
-    c.place_after-place.result c.opened_after.result (ap (numbers_from is_input 0) same)
-    (ap (numbers_from is_free 0) same)
+    moved_told _ _ c.args.kind.now _ _ _ _ _ _ _ (ap (numbers_from _ 0) same) (ap (numbers_from _ 0) same)
     (ap (take c.args.stage) c.as_slice.ensures.value) c.with_phases.ensures.place c.place_after-place.ensures
-    c.with_phases.ensures.opened c.opened_after.ensures.flags c.opened_after.ensures.within
-    c.with_phases.ensures.phases c.with_phases.ensures.stretches
+    c.with_phases.ensures.opened c.opened_after.ensures.flags c.opened_after.ensures.within c.with_phases.ensures.phases
+    c.with_phases.ensures.stretches

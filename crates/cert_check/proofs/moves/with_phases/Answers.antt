@@ -1,24 +1,18 @@
 use Rattle.std.proofs.Common.{refl, sym, ◌∙◌}
 use Rattle.tier_core.specs.Kinds.{phase_at}
-use Rattle.violation.specs.Moves.{next_phase}
 use Rattle.violation.proofs.{KindBits.met_at, NextPhases.{next_more, next_same, next_all}}
 use Rattle.cert_check.proofs.moves.with_phases.Goals.{then-is_stretch, else-is_stretch}
 use Rattle.cert_check.proofs.moves.with_phases.Goals as goal
 
 pub loop-constraint-preserved : goal.loop-constraint-preserved
 loop-constraint-preserved c =
-    let item = c.constraint-item.result in
     let kind = c.args.kind.now in
     let next = c.loop-constraint.next in
-    let phase = next_phase item.left item.right (phase_at kind next) c.args.column.now in
     elim c.if-is_stretch.branch [
       | then-is_stretch w ↦
-          let was = w.has_bit-was_met.ensures ∙ met_at kind next in
-          rw (w.unmet-is, w.met-is, w.next-is) (next_more c.args.constraints.now kind c.args.column.now
-          c.loop-constraint.constraint-index next c.loop-constraint.unmet c.loop-constraint.met
-          w.with_bit-unmet.result w.with_bit-met.result item phase c.loop-constraint.invariant
-          c.loop-constraint-test.true c.constraint-item.is (sym c.is_stretch.ensures ∙ w.if-is_stretch.true)
-          (record {
+          let was = w.has_bit-was_met.ensures ∙ met_at kind _ in
+          rw (w.unmet-is, w.met-is, w.next-is) (next_more _ _ _ _ _ _ _ _ _ _ _ c.loop-constraint.invariant
+          c.loop-constraint-test.true c.constraint-item.is (sym c.is_stretch.ensures ∙ w.if-is_stretch.true) (record {
             within = w.with_bit-unmet.ensures.within;
             here = w.with_bit-unmet.ensures.here ∙ w.is_unmet_after.ensures (phase_at kind next) was;
             others = w.with_bit-unmet.ensures.others;
@@ -29,10 +23,8 @@ loop-constraint-preserved c =
             others = w.with_bit-met.ensures.others;
           })
           refl)
-      | else-is_stretch w ↦ rw (w.unmet-is, w.met-is, w.next-is) (next_same c.args.constraints.now kind
-          c.args.column.now c.loop-constraint.constraint-index next c.loop-constraint.unmet c.loop-constraint.met
-          item c.loop-constraint.invariant c.loop-constraint-test.true c.constraint-item.is
-          (sym c.is_stretch.ensures ∙ w.if-is_stretch.false))
+      | else-is_stretch w ↦ rw (w.unmet-is, w.met-is, w.next-is) (next_same _ _ _ _ _ _ _ _ c.loop-constraint.invariant
+          c.loop-constraint-test.true c.constraint-item.is (sym c.is_stretch.ensures ∙ w.if-is_stretch.false))
     ]
 
 pub returns-clause-phases : goal.returns-clause-phases

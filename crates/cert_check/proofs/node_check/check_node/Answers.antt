@@ -1,11 +1,6 @@
 use Rattle.std.proofs.lemmas.Result.{on_ok_weaker}
-use Rattle.cert_check.specs.Subjects.{problem_of}
 use Rattle.cert_check.proofs.NodeSteps.{right_node}
 use Rattle.cert_check.proofs.node_check.check_node.Goals as goal
 
 pub returns-clause-ok : goal.returns-clause-ok
-returns-clause-ok c =
-    let s = c.args.subject.now in
-    on_ok_weaker c.check_pieces.result
-    (right_node (problem_of s) s.answer.now c.args.stage c.args.number c.in_ok-check_final.ensures.ok)
-    c.check_pieces.ensures.ok
+returns-clause-ok c = on_ok_weaker _ (right_node _ _ _ _ c.in_ok-check_final.ensures.ok) c.check_pieces.ensures.ok

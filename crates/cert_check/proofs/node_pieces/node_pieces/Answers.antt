@@ -1,27 +1,17 @@
-use Rattle.std.proofs.{Common.{◌≡◌, ℕ, List, length, sym, ap, subst}, lemmas.Result.IfOk-weaker}
-use Rattle.tier_core.specs.{declared.class.Class.Class, declared.tier.TierKind.TierKind}
-use Rattle.symbol_class.specs.Held.{ArePieces}
-use Rattle.violation.specs.Prefixes.{kind_of_bits}
-use Rattle.cert_check.specs.{Fitting.ArePartedByTests, Subjects.problem_of}
+use Rattle.std.proofs.{Common.{List, length, ap}, lemmas.Result.IfOk-weaker}
+use Rattle.tier_core.specs.{declared.tier.TierKind.TierKind}
 use Rattle.cert_check.proofs.PrunedSteps.{pruned_none}
 use Rattle.cert_check.proofs.node_pieces.node_pieces.Goals as goal
 
 pub parted_by_tests-requires-clause-pieces : goal.parted_by_tests-requires-clause-pieces
 parted_by_tests-requires-clause-pieces c =
-    let same : length c.as_slice.result.now ≡ (problem_of c.args.subject.now).tiers.width =
+    let same =
     ap (λ (ks : List TierKind). length ks) c.as_slice.ensures.value in
-    subst (λ (n : ℕ). ArePieces n c.in_ok-fitting.fitting.items) (sym same)
-    (c.in_ok-fitting.ensures 0).pieces
+    rw same (c.in_ok-fitting.ensures 0).pieces
 
 pub returns : goal.returns
 returns c stage below stages =
-    let s = c.args.subject.now in
-    let same : length c.as_slice.result.now ≡ (problem_of s).tiers.width =
+    let same =
     ap (λ (ks : List TierKind). length ks) c.as_slice.ensures.value in
-    IfOk-weaker c.parted_by_tests.result _ _
-    (λ parts p. pruned_none (problem_of s) stages below (kind_of_bits (problem_of s) stage c.args.kind.now)
-    (length c.as_slice.result.now) c.in_ok-tests.tests.items c.in_ok-fitting.fitting.items parts.items same
-    (c.in_ok-fitting.ensures stage) c.in_ok-tests.ensures
-    (subst (λ (ts : List Class). ArePartedByTests
-    (length c.as_slice.result.now) ts c.in_ok-fitting.fitting.items parts.items)
-    c.deref.ensures.value p)) c.parted_by_tests.ensures
+    IfOk-weaker c.parted_by_tests.result _ _ (λ parts p. pruned_none _ _ _ _ _ _ _ _ same
+    (c.in_ok-fitting.ensures stage) c.in_ok-tests.ensures (rw c.deref.ensures.value at p)) c.parted_by_tests.ensures

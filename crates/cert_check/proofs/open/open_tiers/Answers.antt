@@ -1,23 +1,21 @@
-use Rattle.std.proofs.{Common.{◌≡◌, ℕ, ◌+◌, ◌-◌, Bool, cond, sym, ap, ◌∙◌, arith, ⊎_elim}, lemmas.Bool.cases_lt}
+use Rattle.std.proofs.{Common.{◌≡◌, ◌+◌, ◌-◌, cond, sym, ap, ◌∙◌, arith, ⊎_elim}, lemmas.Bool.cases_lt}
 use Rattle.tier_core.specs.Tiers.{has_tier, is_input, kind_at}
-use Rattle.cert_check.specs.Opens.{is_open_before, is_open_by, inputs_before}
+use Rattle.cert_check.specs.Opens.{is_open_before, is_open_by}
 use Rattle.cert_check.proofs.Opens.{inputs_more, inputs_in, all_inputs}
 use Rattle.cert_check.proofs.open.open_tiers.Goals as goal
 
 pub is_open-is_open-requires-clause-wide : goal.is_open-is_open-requires-clause-wide
 is_open-is_open-requires-clause-wide c h k d l =
     let kinds = c.args.kinds.now in
-    let more = inputs_in kinds c.loop-tier.tier c.loop-tier-test.true h in
+    let more = inputs_in _ _ c.loop-tier-test.true h in
     omega (arith, more, all_inputs kinds, c.requires.wide k d l, c.loop-tier.invariant.inputs)
 
 pub loop-tier-preserved : goal.loop-tier-preserved
 loop-tier-preserved c =
     let kinds = c.args.kinds.now in
-    let tier : ℕ = c.loop-tier.tier in
-    let open_by : ℕ → Bool = is_open_by kinds c.args.form.now c.args.kind.now.place c.args.kind.now.opened in
-    let step : inputs_before kinds (tier + 1)
-    ≡ inputs_before kinds tier + cond
-    (is_input (kind_at kinds tier)) 1 0 = inputs_more kinds tier c.loop-tier-test.true in
+    let tier = c.loop-tier.tier in
+    let open_by = is_open_by kinds c.args.form.now c.args.kind.now.place c.args.kind.now.opened in
+    let step = inputs_more kinds tier c.loop-tier-test.true in
     record {
       within = c.with_bit-open.ensures.within;
       bits = λ t l. ⊎_elim

@@ -1,17 +1,11 @@
-use Rattle.std.proofs.Common.{◌≡◌, ℕ, ◌≤◌, ◌<◌, ◌↔◌, List, length, filter, take, sym, subst, arith, All, IsTrue}
-use Rattle.tier_core.specs.{declared.sym.Sym.Sym, declared.tier.TierKind.TierKind, Tiers.has_tier}
-use Rattle.tier_core.specs.{declared.constraint.Constraint.Constraint, Kinds.phases, Sides.is_stretch}
-use Rattle.violation.specs.Phases.{AreClosedOr}
-use Rattle.cert_check.specs.{Possible.all_open_in, Opens.{inputs_before, is_open_by}}
+use Rattle.std.proofs.Common.{◌≡◌, ℕ, ◌≤◌, ◌<◌, length, arith}
+use Rattle.tier_core.specs.{Tiers.has_tier}
+use Rattle.cert_check.specs.{Opens.{is_open_by}}
 use Rattle.cert_check.proofs.Subjects.{form_wide, possible_by_mask}
 use Rattle.cert_check.proofs.order.is_possible.Goals as goal
 
 pub open_tiers-mask-requires-clause-wide : goal.open_tiers-mask-requires-clause-wide
-open_tiers-mask-requires-clause-wide c =
-    subst (λ (kinds : List TierKind). All
-    (λ (column : List Sym). length column
-    ≡ inputs_before kinds (length kinds)) c.args.subject.now.answer.now.form) (sym c.as_slice.ensures.value)
-    (form_wide c.args.subject.now c.requires.ready c.args.stage c.requires.stage)
+open_tiers-mask-requires-clause-wide c = rw c.as_slice.ensures.value (form_wide _ c.requires.ready _ c.requires.stage)
 
 pub returns : goal.returns
 returns c =
@@ -21,14 +15,7 @@ returns c =
     let told : (t : ℕ) → t < length s.grammar.now.tiers.kinds.items
     → has_tier c.open_tiers-mask.result t
     ≡ is_open_by s.grammar.now.tiers.kinds.items s.answer.now.form kind.place kind.opened t =
-    subst (λ (kinds : List TierKind). (t : ℕ) → t < length kinds
-    → has_tier c.open_tiers-mask.result t
-    ≡ is_open_by kinds s.answer.now.form kind.place kind.opened t) c.as_slice.ensures.value
-    c.open_tiers-mask.ensures in
-    let p = possible_by_mask s c.requires.ready c.args.stage c.requires.stage kind place c.open_tiers-mask.result told
-    in
-    let own = subst (λ (cs : List Constraint). IsTrue c.are_phases_right.result ↔ AreClosedOr
-    (all_open_in c.open_tiers-mask.result) (filter is_stretch (take c.args.stage cs))
-    (phases (length (filter is_stretch
-    (take c.args.stage cs))) kind)) c.as_slice-2.ensures.value c.are_phases_right.ensures in
+    rw c.as_slice.ensures.value at c.open_tiers-mask.ensures in
+    let p = possible_by_mask s c.requires.ready _ c.requires.stage kind place _ told in
+    let own = rw c.as_slice-2.ensures.value at c.are_phases_right.ensures in
     (λ h. p.0 (own.0 h), λ q. own.1 (p.1 q))

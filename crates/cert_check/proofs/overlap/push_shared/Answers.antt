@@ -7,26 +7,19 @@ use Rattle.cert_check.proofs.overlap.push_shared.Goals as goal
 pub loop-later-init : goal.loop-later-init
 loop-later-init c = record {
   from = omega arith;
-  adds = λ arc e. shared_none c.args.arcs.now c.args.place arc.class c.args.shared.now.items;
+  adds = λ arc e. shared_none c.args.arcs.now c.args.place arc.class _;
 }
 
 pub loop-later-preserved : goal.loop-later-preserved
 loop-later-preserved c =
-    let later = c.index-arcs-later.result in
     record {
       from = omega (arith, c.loop-later.invariant.from);
-      adds = λ arc e. shared_more c.args.arcs.now c.args.place c.loop-later.later arc.class later
-          c.args.shared.now.items c.loop-later.shared.items c.push_filled.new.classes.items
-          c.loop-later.invariant.from c.loop-later-test.true c.index-arcs-later.is (c.loop-later.invariant.adds arc e)
-          (adds_same c.loop-later.shared.items c.push_filled.new.classes.items (has c.meet.result)
-          (λ column. has arc.class column && has later.class column)
-          (λ column. c.meet.ensures.columns column
-          ∙ ap₂ (λ (x y : ArcLine). has x.class column && has y.class column)
-          (get_or_from_slice_get c.args.arcs.now c.args.place arc c.index-arcs-place.result e)
-          (sym c.index-arcs-later.is))
-          c.in_ok-push_filled.ensures);
+      adds = λ arc e. shared_more _ _ _ _ _ _ _ _ c.loop-later.invariant.from c.loop-later-test.true
+          c.index-arcs-later.is (c.loop-later.invariant.adds arc e) (adds_same _ _ _ _ (λ column. c.meet.ensures.columns
+          column ∙ ap₂ (λ (x y : ArcLine). has x.class column && has y.class column)
+          (get_or_from_slice_get c.args.arcs.now c.args.place _ c.index-arcs-place.result e)
+          (sym c.index-arcs-later.is)) c.in_ok-push_filled.ensures);
     }
 
 pub returns : goal.returns
-returns c = λ arc e. shared_all c.args.arcs.now c.args.place c.loop-later.later arc.class c.args.shared.now.items
-    c.loop-later.shared.items c.loop-later-test.false (c.loop-later.invariant.adds arc e)
+returns c = λ arc e. shared_all _ _ _ _ _ _ c.loop-later-test.false (c.loop-later.invariant.adds arc e)

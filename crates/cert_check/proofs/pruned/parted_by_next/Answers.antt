@@ -1,10 +1,7 @@
-use Rattle.std.proofs.{Common.{◌≡◌, ℕ, List, length, sym, ap, subst}, lemmas.List.Elements.All-from_recursion}
+use Rattle.std.proofs.{Common.{List, length, ap}, lemmas.List.Elements.All-from_recursion}
 use Rattle.std.proofs.lemmas.Result.{IfOk-weaker}
-use Rattle.tier_core.specs.{declared.class.Class.Class, declared.constraint.Constraint.Constraint}
 use Rattle.tier_core.specs.declared.tier.TierKind.{TierKind}
-use Rattle.symbol_class.specs.Held.{ArePieces}
 use Rattle.violation.specs.Conditions.{IsOverTiers}
-use Rattle.cert_check.specs.{Fitting.ArePartedByTests, Subjects.problem_of}
 use Rattle.grammar_reader.proofs.OverTiers.{over_tiers}
 use Rattle.cert_check.proofs.PrunedSteps.{parted_next}
 use Rattle.cert_check.proofs.pruned.parted_by_next.Goals as goal
@@ -12,29 +9,21 @@ use Rattle.cert_check.proofs.pruned.parted_by_next.Goals as goal
 pub constraint_tests-requires-clause-over : goal.constraint_tests-requires-clause-over
 constraint_tests-requires-clause-over c =
     let g = c.args.subject.now.grammar.now in
-    let x : Constraint = c.index.result.now in
-    let same : length c.as_slice.result.now ≡ length g.tiers.kinds.items =
+    let x = c.index.result.now in
+    let same =
     ap (λ (ks : List TierKind). length ks) c.as_slice.ensures.value in
-    subst (λ (n : ℕ). IsOverTiers n x) (sym same)
-    (subst (IsOverTiers (length g.tiers.kinds.items)) (sym c.index.ensures)
-    (All-from_recursion (IsOverTiers (length g.tiers.kinds.items)) g.constraints.items (over_tiers g)
-    c.args.stage x c.requires.stage))
+    rw same (rw c.index.ensures (All-from_recursion (IsOverTiers (length g.tiers.kinds.items)) g.constraints.items
+    (over_tiers g) c.args.stage x c.requires.stage))
 
 pub parted_by_tests-requires-clause-pieces : goal.parted_by_tests-requires-clause-pieces
 parted_by_tests-requires-clause-pieces c =
-    let same : length c.as_slice.result.now ≡ (problem_of c.args.subject.now).tiers.width =
+    let same =
     ap (λ (ks : List TierKind). length ks) c.as_slice.ensures.value in
-    subst (λ (n : ℕ). ArePieces n c.args.pieces.items) (sym same) c.requires.pieces
+    rw same c.requires.pieces
 
 pub returns : goal.returns
 returns c =
-    let s = c.args.subject.now in
-    let same : length c.as_slice.result.now ≡ (problem_of s).tiers.width =
+    let same =
     ap (λ (ks : List TierKind). length ks) c.as_slice.ensures.value in
-    IfOk-weaker c.parted_by_tests.result _ _
-    (λ parts p. parted_next (problem_of s) c.args.stage c.index.result.now (length c.as_slice.result.now)
-    c.in_ok-tests.tests.items c.args.pieces.items parts.items c.requires.stage c.index.ensures same c.requires.alike
-    c.in_ok-tests.ensures
-    (subst (λ (ts : List Class). ArePartedByTests
-    (length c.as_slice.result.now) ts c.args.pieces.items parts.items)
-    c.deref.ensures.value p)) c.parted_by_tests.ensures
+    IfOk-weaker c.parted_by_tests.result _ _ (λ parts p. parted_next _ _ _ _ _ _ _ c.requires.stage c.index.ensures same
+    c.requires.alike c.in_ok-tests.ensures (rw c.deref.ensures.value at p)) c.parted_by_tests.ensures

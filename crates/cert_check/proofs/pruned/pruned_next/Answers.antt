@@ -1,28 +1,18 @@
-use Rattle.std.proofs.{Common.{◌+◌, List, sym, subst, All}, lemmas.Result.IfOk-weaker}
-use Rattle.tier_core.specs.declared.class.Class.{Class}
+use Rattle.std.proofs.{lemmas.Result.IfOk-weaker}
 use Rattle.violation.specs.Prefixes.{kind_of_bits}
-use Rattle.cert_check.specs.{Pruned.{AreTightAmong, IsAlikeTo}, Subjects.problem_of}
+use Rattle.cert_check.specs.{Subjects.problem_of}
 use Rattle.cert_check.proofs.PrunedSteps.{pruned_same, pruned_more}
 use Rattle.cert_check.proofs.pruned.pruned_next.Goals as goal
 
 pub returns-then-below-before : goal.returns-then-below-before
-returns-then-below-before c =
-    let s = c.args.subject.now in
-    pruned_same (problem_of s) s.answer.now.stages.items c.args.below c.args.before
-    (kind_of_bits (problem_of s) c.args.stage c.args.kind.now) c.args.pieces.items c.in_ok-parts.parts.items
-    c.requires.pieces c.in_ok-parts.ensures c.if-below-before.true
+returns-then-below-before c = pruned_same _ _ _ _ _ _ _ c.requires.pieces c.in_ok-parts.ensures c.if-below-before.true
 
 pub tight_among-requires-clause-alike : goal.tight_among-requires-clause-alike
-tight_among-requires-clause-alike c =
-    subst (λ (xs : List Class). All (IsAlikeTo (problem_of c.args.subject.now) (c.args.before + 1)) xs)
-    (sym c.deref.ensures.value) (c.in_ok-parts.ensures).alike
+tight_among-requires-clause-alike c = rw c.deref.ensures.value (c.in_ok-parts.ensures).alike
 
 pub returns : goal.returns
 returns c =
     let s = c.args.subject.now in
     let k = kind_of_bits (problem_of s) c.args.stage c.args.kind.now in
-    IfOk-weaker c.tight_among.result _ _
-    (λ next t. pruned_more (problem_of s) s.answer.now.stages.items c.args.below c.args.before k c.args.pieces.items
-    c.in_ok-parts.parts.items c.requires.pieces c.in_ok-parts.ensures next.items c.if-below-before.false
-    (subst (λ (xs : List Class). AreTightAmong (problem_of s) s.answer.now.stages.items (c.args.before + 1) k xs
-    next.items) c.deref.ensures.value t)) c.tight_among.ensures
+    IfOk-weaker c.tight_among.result _ _ (λ next t. pruned_more _ _ _ _ k _ _ c.requires.pieces c.in_ok-parts.ensures _
+    c.if-below-before.false (rw c.deref.ensures.value at t)) c.tight_among.ensures

@@ -1,6 +1,4 @@
-use Rattle.std.proofs.Common.{◌≡◌, arith, subst}
-use Rattle.violation.specs.Prefixes.{kind_of_bits}
-use Rattle.cert_check.specs.{Pruned.ArePruned, Subjects.problem_of}
+use Rattle.std.proofs.Common.{◌≡◌, arith}
 use Rattle.cert_check.proofs.pruned.pruned_pieces.Goals as goal
 
 pub loop-before-init : goal.loop-before-init
@@ -9,7 +7,5 @@ loop-before-init c =
 
 pub returns : goal.returns
 returns c =
-    let s = c.args.subject.now in
     let e : c.loop-before.before ≡ c.args.stage = omega (arith, c.loop-before-test.false) in
-    subst (λ n. ArePruned (problem_of s) s.answer.now.stages.items c.args.below n
-    (kind_of_bits (problem_of s) c.args.stage c.args.kind.now) c.loop-before.pieces.items) e c.loop-before.invariant
+    rw e at c.loop-before.invariant

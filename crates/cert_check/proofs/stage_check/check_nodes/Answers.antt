@@ -1,31 +1,23 @@
-use Rattle.std.proofs.{Common.{◌≡◌, subst, arith, ⊎_elim}, lemmas.Bool.cases_lt, lemmas.Result.err_from_is_err_and}
-use Rattle.cert_check.specs.{Nodes.{IsRightNode, IsFirstInNode}, Parts.IsFirstInStage, Subjects.problem_of}
+use Rattle.std.proofs.{Common.{◌≡◌, arith, ⊎_elim}, lemmas.Bool.cases_lt, lemmas.Result.err_from_is_err_and}
 use Rattle.cert_check.proofs.{StageSteps.{node_here, place_in, first_in_node}, Stops.stop_says, Subjects.nodes_read}
 use Rattle.cert_check.proofs.stage_check.check_nodes.Goals as goal
 
 pub check_node-requires-clause-place : goal.check_node-requires-clause-place
 check_node-requires-clause-place c =
     let s = c.args.subject.now in
-    let read = nodes_read s c.requires.ready c.args.stage c.requires.stage c.as_slice-nodes.result.now
-    c.index.result.now c.as_slice-nodes.ensures.value c.index.ensures in
-    place_in s c.args.stage c.requires.ready c.requires.stage c.requires.order c.loop-number.number
-    c.index-nodes-number.result
-    (node_here s c.args.stage c.requires.ready c.requires.stage c.as_slice-nodes.result.now c.loop-number.number
-    c.index-nodes-number.result read c.loop-number-test.true c.index-nodes-number.is)
+    let read = nodes_read s c.requires.ready _ c.requires.stage _ _ c.as_slice-nodes.ensures.value c.index.ensures in
+    place_in s _ c.requires.ready c.requires.stage c.requires.order _ _
+    (node_here s _ c.requires.ready c.requires.stage _ _ _ read c.loop-number-test.true c.index-nodes-number.is)
 
 pub returns-in_err-check_node-clause-err : goal.returns-in_err-check_node-clause-err
 returns-in_err-check_node-clause-err c =
     let s = c.args.subject.now in
     let p = err_from_is_err_and c.from_residual.result c.from_residual.ensures.1 in
-    rw (p.1, p.2) (stop_says (IsFirstInNode (problem_of s) s.answer.now c.args.stage c.loop-number.number)
-    (IsFirstInStage (problem_of s) s.answer.now c.args.stage)
-    (λ fault. first_in_node s c.args.stage c.requires.ready c.requires.stage c.requires.order c.requires.start
-    c.loop-number.number fault c.loop-number.invariant) c.in_err-check_node.field-0.0 c.in_err-check_node.ensures.err)
+    rw (p.1, p.2) (stop_says _ _ (λ fault. first_in_node s _ c.requires.ready c.requires.stage c.requires.order
+    c.requires.start _ _ c.loop-number.invariant) _ c.in_err-check_node.ensures.err)
 
 pub loop-number-preserved : goal.loop-number-preserved
 loop-number-preserved c n l = ⊎_elim
     (λ below. c.loop-number.invariant n below)
     (λ above. let is : c.loop-number.number ≡ n = omega arith in
-    subst (λ m. IsRightNode (problem_of c.args.subject.now) c.args.subject.now.answer.now c.args.stage m) is
-    c.in_ok-check_node.ensures.ok)
-    (cases_lt n c.loop-number.number)
+    rw is at c.in_ok-check_node.ensures.ok) (cases_lt n c.loop-number.number)

@@ -7,12 +7,10 @@ pub check_nodes-requires-clause-ascend : goal.check_nodes-requires-clause-ascend
 check_nodes-requires-clause-ascend c j l = ⊎_elim
     (λ below. c.requires.before j below)
     (λ above. let is : c.args.stage ≡ j = omega arith in
-    subst (AscendsAt c.args.subject.now) is
-    (ascends_by c.args.subject.now c.args.stage c.in_ok-check_order.ensures.ok))
-    (cases_lt j c.args.stage)
+    subst (AscendsAt c.args.subject.now) is (ascends_by c.args.subject.now _ c.in_ok-check_order.ensures.ok)) (cases_lt
+    j c.args.stage)
 
 pub returns-clause-ascends : goal.returns-clause-ascends
 returns-clause-ascends c =
-    on_ok_weaker c.check_start_potential.result
-    (λ right. ascends_by c.args.subject.now c.args.stage c.in_ok-check_order.ensures.ok)
+    on_ok_weaker _ (λ right. ascends_by c.args.subject.now _ c.in_ok-check_order.ensures.ok)
     c.check_start_potential.ensures.ok

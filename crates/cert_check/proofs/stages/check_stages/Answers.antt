@@ -1,5 +1,4 @@
 use Rattle.std.proofs.lemmas.Result.{err_from_is_err_and}
-use Rattle.cert_check.specs.{FirstFaults.IsFirstFault, Parts.IsFirstInStage, Subjects.problem_of}
 use Rattle.cert_check.proofs.{StageSteps.first_stage, Stops.stop_says}
 use Rattle.cert_check.proofs.stages.check_stages.Goals as goal
 
@@ -7,7 +6,6 @@ pub returns-in_err-check_stage-clause-err : goal.returns-in_err-check_stage-clau
 returns-in_err-check_stage-clause-err c =
     let s = c.args.subject.now in
     let p = err_from_is_err_and c.from_residual.result c.from_residual.ensures.1 in
-    rw (p.1, p.2) (stop_says (IsFirstInStage (problem_of s) s.answer.now c.loop-stage.stage)
-    (IsFirstFault (problem_of s) s.answer.now)
-    (λ fault. first_stage s c.requires.ready c.requires.head c.loop-stage.stage fault c.loop-stage.invariant.right)
-    c.in_err-check_stage.field-0.0 c.in_err-check_stage.ensures.err)
+    rw (p.1, p.2) (stop_says _ _
+    (λ fault. first_stage s c.requires.ready c.requires.head _ _ c.loop-stage.invariant.right) _
+    c.in_err-check_stage.ensures.err)

@@ -5,6 +5,6 @@ use Rattle.cert_check.proofs.start.is_start.Goals as goal
 
 pub returns : goal.returns
 returns c =
-    let by = start_by c.args.subject.now c.args.stage c.requires.ready c.requires.stage c.args.kind.now empty_kind
-    refl refl refl refl c.kind_cmp.result c.kind_cmp.ensures in
+    let by = start_by _ _ c.requires.ready c.requires.stage c.args.kind.now empty_kind refl refl refl refl _
+    c.kind_cmp.ensures in
     (λ h. by.0 (sym c.is_eq.ensures ∙ h), λ e. c.is_eq.ensures ∙ by.1 e)

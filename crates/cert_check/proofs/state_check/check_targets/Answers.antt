@@ -1,56 +1,42 @@
-use Rattle.std.proofs.Common.{◌≡◌, ℕ, ◌<◌, List, length, get_or, Some, Contains, slice_get, sym, ap, ◌∙◌, arith}
-use Rattle.std.proofs.{Common.{subst, ⊎_elim, true≢false}, lemmas.Bool.cases_lt}
+use Rattle.std.proofs.Common.{◌≡◌, ℕ, ◌<◌, List, length, get_or, Some, slice_get, sym, ap, ◌∙◌, arith}
+use Rattle.std.proofs.{Common.{⊎_elim, true≢false}, lemmas.Bool.cases_lt}
 use Rattle.std.proofs.lemmas.Option.{slice_get-get_or, slice_get_within}
-use Rattle.answer_text.specs.{declared.automaton.ArcLine.ArcLine, declared.automaton.StateLine.StateLine}
-use Rattle.answer_text.specs.Right.{numbers_of}
-use Rattle.cert_check.specs.{Faults.IsState, Subjects.problem_of}
+use Rattle.answer_text.specs.{declared.automaton.ArcLine.ArcLine}
+use Rattle.cert_check.specs.{Subjects.problem_of}
 use Rattle.cert_check.proofs.{Faultless.some_same, StateFaults.{targets_right, first_target}}
 use Rattle.cert_check.proofs.StateSubjects.{states_ascend}
 use Rattle.cert_check.proofs.state_check.check_targets.Goals as goal
 
 numbered : (xs ys : List ArcLine) → xs ≡ ys → (n : ℕ) (arc : ArcLine) → n < length xs → arc ≡ get_or xs n arc
     → slice_get ys n ≡ Some arc
-numbered xs ys e n arc l is = ap (λ (zs : List ArcLine). slice_get zs n) (sym e) ∙ slice_get-get_or xs n arc l
-    ∙ ap (λ (x : ArcLine). Some x) (sym is)
+numbered xs ys e n arc l is = ap (λ (zs : List ArcLine). slice_get zs n) (sym e) ∙ slice_get-get_or xs n _ l ∙ ap
+    (λ (x : ArcLine). Some x) (sym is)
 
 pub returns-then-not-has_state-clause-err : goal.returns-then-not-has_state-clause-err
 returns-then-not-has_state-clause-err c =
     let s = c.args.subject.now in
-    let state = c.args.state.now in
-    let arc = c.arc-item.result in
-    first_target (problem_of s) s.answer.now (states_ascend s c.requires.staged) state c.requires.at.listed
-    c.loop-arc.arc-index arc
-    (numbered c.deref-arc-items.result.now state.arcs.items c.deref-arc-items.ensures.value c.loop-arc.arc-index arc
-    c.loop-arc-test.true c.arc-item.is)
-    (λ h. true≢false (sym (c.has_state.ensures.1
-    (subst (λ (xs : List StateLine). Contains (numbers_of xs) arc.target) (sym c.as_slice-states.ensures.value) h))
-    ∙ c.if-not-has_state.true))
+    first_target _ _ (states_ascend s c.requires.staged) _ c.requires.at.listed _ _
+    (numbered _ _ c.deref-arc-items.ensures.value _ _ c.loop-arc-test.true c.arc-item.is)
+    (λ h. true≢false (sym (c.has_state.ensures.1 (rw c.as_slice-states.ensures.value h)) ∙ c.if-not-has_state.true))
     (λ m l x e. c.loop-arc.invariant m x l e)
 
 pub loop-arc-preserved : goal.loop-arc-preserved
 loop-arc-preserved c n arc l e = ⊎_elim
     (λ below. c.loop-arc.invariant n arc below e)
     (λ above.
-    let s = c.args.subject.now in
-    let own = c.arc-item.result in
     let is : n ≡ c.loop-arc.arc-index = omega (arith, l, above) in
-    let same : arc ≡ own = some_same (sym e ∙ ap (slice_get c.args.state.now.arcs.items) is
-    ∙ numbered c.deref-arc-items.result.now c.args.state.now.arcs.items c.deref-arc-items.ensures.value
-    c.loop-arc.arc-index own c.loop-arc-test.true c.arc-item.is) in
-    subst (λ (x : ArcLine). IsState s.answer.now x.target) (sym same)
-    (subst (λ (xs : List StateLine). Contains (numbers_of xs) own.target) c.as_slice-states.ensures.value
-    (c.has_state.ensures.0 c.if-not-has_state.false)))
-    (cases_lt n c.loop-arc.arc-index)
+    let same = some_same (sym e ∙ ap (slice_get c.args.state.now.arcs.items) is ∙ numbered _ _
+    c.deref-arc-items.ensures.value _ _ c.loop-arc-test.true c.arc-item.is) in
+    rw same (rw c.as_slice-states.ensures.value at (c.has_state.ensures.0 c.if-not-has_state.false))) (cases_lt n
+    c.loop-arc.arc-index)
 
 pub returns-clause-ok : goal.returns-clause-ok
 returns-clause-ok c =
     let s = c.args.subject.now in
-    let state = c.args.state.now in
-    targets_right (problem_of s) s.answer.now (states_ascend s c.requires.staged) state c.requires.at.listed
-    (λ n arc e. c.loop-arc.invariant n arc
-    (omega (
+    targets_right (problem_of s) _ (states_ascend s c.requires.staged) _ c.requires.at.listed
+    (λ n arc e. c.loop-arc.invariant n arc (omega (
       arith,
-      slice_get_within state.arcs.items n arc e,
+      slice_get_within _ n _ e,
       c.loop-arc-test.false,
       ap (λ (xs : List ArcLine). length xs) c.deref-arc-items.ensures.value,
     )) e)

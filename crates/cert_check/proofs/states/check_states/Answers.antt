@@ -1,8 +1,8 @@
-use Rattle.std.proofs.Common.{◌≡◌, List, length, sym, ap, ◌∙◌, subst, arith, Contains, true≢false}
+use Rattle.std.proofs.Common.{◌≡◌, List, length, sym, ap, ◌∙◌, arith, true≢false}
 use Rattle.std.proofs.{lemmas.Option.slice_get_within, lemmas.Result.err_from_is_err_and}
 use Rattle.violation.specs.Problems.{last_stage}
-use Rattle.answer_text.specs.{declared.automaton.StateLine.StateLine, Right.numbers_of}
-use Rattle.cert_check.specs.{Faults.IsState, FirstFaults.IsFirstFault, Parts.IsFirstInState, Subjects.problem_of}
+use Rattle.answer_text.specs.{declared.automaton.StateLine.StateLine}
+use Rattle.cert_check.specs.{Faults.IsState, Subjects.problem_of}
 use Rattle.cert_check.proofs.StateSteps.{right_more, first_start, first_state, states_right, state_read, state_here}
 use Rattle.cert_check.proofs.{StateSubjects.states_ascend, Stops.stop_says}
 use Rattle.cert_check.proofs.states.check_states.Goals as goal
@@ -10,53 +10,42 @@ use Rattle.cert_check.proofs.states.check_states.Goals as goal
 pub returns-then-not-has_state-clause-err : goal.returns-then-not-has_state-clause-err
 returns-then-not-has_state-clause-err c =
     let s = c.args.subject.now in
-    first_start (problem_of s) s.answer.now (states_ascend s c.requires) c.requires.right
-    (λ h. true≢false (sym (c.has_state.ensures.1
-    (subst (λ (xs : List StateLine). Contains (numbers_of xs) 0) (sym c.as_slice-states.ensures.value) h))
-    ∙ c.if-not-has_state.true))
+    first_start _ _ (states_ascend s c.requires) c.requires.right
+    (λ h. true≢false (sym (c.has_state.ensures.1 (rw c.as_slice-states.ensures.value h)) ∙ c.if-not-has_state.true))
 
 pub check_state-requires-clause-at : goal.check_state-requires-clause-at
 check_state-requires-clause-at c =
     let s = c.args.subject.now in
     let is : c.len.result ≡ last_stage (problem_of s) = omega (arith, c.len.ensures) in
-    state_here c.as_slice-states.result.now s c.requires c.as_slice-states.ensures.value c.loop-state.state-index
-    c.state-item.result c.loop-state-test.true c.state-item.is c.as_slice-nodes.result.now c.index.result.now
-    c.len.result c.index-nodes-state.result c.as_slice-nodes.ensures.value is c.index.ensures c.index-nodes-state.is
+    state_here _ s c.requires c.as_slice-states.ensures.value _ _ c.loop-state-test.true c.state-item.is _ _ _ _
+    c.as_slice-nodes.ensures.value is c.index.ensures c.index-nodes-state.is
 
 pub returns-in_err-check_state-clause-err : goal.returns-in_err-check_state-clause-err
 returns-in_err-check_state-clause-err c =
     let s = c.args.subject.now in
-    let line = c.state-item.result in
-    let start : IsState s.answer.now 0 = subst (λ (xs : List StateLine). Contains (numbers_of xs) 0)
-    c.as_slice-states.ensures.value (c.has_state.ensures.0 c.if-not-has_state.false) in
+    let start : IsState s.answer.now 0 = rw c.as_slice-states.ensures.value
+    at (c.has_state.ensures.0 c.if-not-has_state.false) in
     let p = err_from_is_err_and c.from_residual.result c.from_residual.ensures.1 in
-    rw (p.1, p.2) (stop_says (IsFirstInState (problem_of s) s.answer.now line.node)
-    (IsFirstFault (problem_of s) s.answer.now)
-    (first_state (problem_of s) s.answer.now (states_ascend s c.requires) c.requires.right start
-    c.loop-state.state-index line
-    (state_read c.as_slice-states.result.now s c.requires c.as_slice-states.ensures.value c.loop-state.state-index
-    line c.loop-state-test.true c.state-item.is) c.loop-state.invariant)
-    c.in_err-check_state.field-0.0 c.in_err-check_state.ensures.err)
+    rw (p.1, p.2) (stop_says _ _ (first_state _ _ (states_ascend s c.requires) c.requires.right start _ _
+    (state_read _ s c.requires c.as_slice-states.ensures.value _ _ c.loop-state-test.true c.state-item.is)
+    c.loop-state.invariant) _ c.in_err-check_state.ensures.err)
 
 pub loop-state-preserved : goal.loop-state-preserved
 loop-state-preserved c =
     let s = c.args.subject.now in
-    right_more (problem_of s) s.answer.now (states_ascend s c.requires) c.requires.right c.loop-state.state-index
-    c.state-item.result
-    (state_read c.as_slice-states.result.now s c.requires c.as_slice-states.ensures.value c.loop-state.state-index
-    c.state-item.result c.loop-state-test.true c.state-item.is)
+    right_more _ _ (states_ascend s c.requires) c.requires.right _ _
+    (state_read _ s c.requires c.as_slice-states.ensures.value _ _ c.loop-state-test.true c.state-item.is)
     c.in_ok-check_state.ensures.ok c.loop-state.invariant
 
 pub returns-clause-ok : goal.returns-clause-ok
 returns-clause-ok c =
     let s = c.args.subject.now in
-    let start : IsState s.answer.now 0 = subst (λ (xs : List StateLine). Contains (numbers_of xs) 0)
-    c.as_slice-states.ensures.value (c.has_state.ensures.0 c.if-not-has_state.false) in
-    states_right (problem_of s) s.answer.now (states_ascend s c.requires) c.requires.right start
-    (λ n line e. c.loop-state.invariant n line
-    (omega (
+    let start : IsState s.answer.now 0 = rw c.as_slice-states.ensures.value
+    at (c.has_state.ensures.0 c.if-not-has_state.false) in
+    states_right _ _ (states_ascend s c.requires) c.requires.right start
+    (λ n line e. c.loop-state.invariant n line (omega (
       arith,
-      slice_get_within s.answer.now.automaton.states.items n line e,
+      slice_get_within _ n _ e,
       c.loop-state-test.false,
       ap (λ (xs : List StateLine). length xs) c.as_slice-states.ensures.value,
     )) e)

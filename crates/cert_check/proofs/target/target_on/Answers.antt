@@ -23,12 +23,9 @@ loop-arc-preserved c = record {
   none = λ i arc l. ⊎_elim
       (λ below. c.loop-arc.invariant.none i arc below)
       (λ above. let is : i ≡ c.loop-arc.arc-index = omega (arith, l, above) in
-      ap (λ n. has (get_or c.args.arcs.now n arc).class c.args.column.now) is
-      ∙ ap (λ (x : ArcLine). has x.class c.args.column.now)
-      (get_or_default c.args.arcs.now c.loop-arc.arc-index arc c.arc-item.result c.loop-arc-test.true
-      ∙ sym c.arc-item.is)
-      ∙ sym c.has.ensures ∙ c.if-has.false)
-      (cases_lt i c.loop-arc.arc-index);
+      ap (λ n. has (get_or c.args.arcs.now n arc).class c.args.column.now) is ∙ ap
+      (λ (x : ArcLine). has x.class c.args.column.now) (get_or_default _ _ _ _ c.loop-arc-test.true ∙ sym c.arc-item.is)
+      ∙ sym c.has.ensures ∙ c.if-has.false) (cases_lt i c.loop-arc.arc-index);
 }
 
 pub returns : goal.returns

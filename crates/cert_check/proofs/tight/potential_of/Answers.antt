@@ -1,5 +1,3 @@
-use Rattle.violation.specs.Prefixes.{kind_of_bits}
-use Rattle.cert_check.specs.Subjects.{problem_of}
 use Rattle.cert_check.proofs.TightSteps.{lists_there}
 use Rattle.cert_check.proofs.tight.potential_of.Goals as goal
 
@@ -7,7 +5,5 @@ pub returns-in-Some : goal.returns-in-Some
 returns-in-Some c =
     let s = c.args.subject.now in (
       c.potential_at.ensures.few,
-      lists_there (problem_of s) s.answer.now.stages.items c.args.stage
-          (kind_of_bits (problem_of s) c.args.stage c.args.kind.now) c.in-Some.number c.potential_at.result
-          c.in-Some.ensures c.potential_at.ensures.value,
+      lists_there _ _ _ _ _ _ c.in-Some.ensures c.potential_at.ensures.value,
     )

@@ -1,5 +1,4 @@
 use Rattle.std.proofs.Common.{◌≡◌, not, ◌&&◌, true, false, Bool, refl, ap, ◌∙◌, arith}
-use Rattle.tier_core.specs.{Classes.has, Sets.is_in, Timelines.symbol}
 use Rattle.tier_core.proofs.{ClassSets.width_is, KnownSets.in_none}
 use Rattle.cert_check.proofs.uniform.inside.Goals as goal
 
@@ -11,5 +10,4 @@ pub restrict-requires : goal.restrict-requires
 restrict-requires c = let class = c.args.class.now in omega (arith, width_is class, class.some)
 
 pub returns-clause-columns : goal.returns-clause-columns
-returns-clause-columns c column = but_none (has c.args.class.now column) (has c.restrict.result column)
-    (is_in 0 (symbol column 0)) (c.restrict.ensures.columns column) (in_none (symbol column 0))
+returns-clause-columns c column = but_none _ _ _ (c.restrict.ensures.columns column) (in_none _)

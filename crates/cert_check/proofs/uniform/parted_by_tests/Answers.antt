@@ -1,32 +1,23 @@
-use Rattle.std.proofs.{Common.{◌≡◌, ℕ, length, sym, ◌∙◌, subst}, lemmas.List.take_all}
-use Rattle.tier_core.specs.{declared.class.Class.Class, Classes.sets_of}
-use Rattle.symbol_class.specs.Held.{ArePieces}
-use Rattle.cert_check.specs.Fitting.{ArePartedByTests}
+use Rattle.std.proofs.{Common.{◌≡◌, length, ◌∙◌}, lemmas.List.take_all}
+use Rattle.tier_core.specs.{Classes.sets_of}
 use Rattle.cert_check.proofs.UniformSteps.{parted_none, parted_more}
 use Rattle.cert_check.proofs.uniform.parted_by_tests.Goals as goal
 
 pub loop-test-init : goal.loop-test-init
-loop-test-init c = parted_none c.args.width c.args.pieces.items c.requires.pieces
+loop-test-init c = parted_none _ _ c.requires.pieces
 
 pub part-requires : goal.part-requires
 part-requires c =
     let wide : length (sets_of c.test-item.result) ≡ c.args.width =
-    subst (λ (t : Class). length (sets_of t) ≡ c.args.width) (sym c.test-item.is)
-    (c.requires.tests c.loop-test.test-index c.test-item.result c.loop-test-test.true) in
-    subst (λ (n : ℕ). ArePieces n c.loop-test.parts.items) (sym (c.inside.ensures.width ∙ wide))
-    c.loop-test.invariant.pieces
+    rw c.test-item.is (c.requires.tests c.loop-test.test-index c.test-item.result c.loop-test-test.true) in
+    rw ((c.inside.ensures.width ∙ wide)) c.loop-test.invariant.pieces
 
 pub loop-test-preserved : goal.loop-test-preserved
 loop-test-preserved c =
     let wide : length (sets_of c.test-item.result) ≡ c.args.width =
-    subst (λ (t : Class). length (sets_of t) ≡ c.args.width) (sym c.test-item.is)
-    (c.requires.tests c.loop-test.test-index c.test-item.result c.loop-test-test.true) in
-    parted_more c.args.width c.args.tests.now c.loop-test.test-index c.test-item.result c.args.pieces.items
-    c.loop-test.parts.items c.in_ok-parts.parts.items (length (sets_of c.inside.result.within)) c.inside.result
-    c.loop-test-test.true c.test-item.is (c.inside.ensures.width ∙ wide) c.inside.ensures.columns
-    c.loop-test.invariant c.in_ok-parts.ensures
+    rw c.test-item.is (c.requires.tests c.loop-test.test-index c.test-item.result c.loop-test-test.true) in
+    parted_more _ _ _ _ _ _ _ _ c.inside.result c.loop-test-test.true c.test-item.is (c.inside.ensures.width ∙ wide)
+    c.inside.ensures.columns c.loop-test.invariant c.in_ok-parts.ensures
 
 pub returns : goal.returns
-returns c =
-    subst (λ ts. ArePartedByTests c.args.width ts c.args.pieces.items c.loop-test.parts.items)
-    (take_all c.loop-test.test-index c.args.tests.now c.loop-test-test.false) c.loop-test.invariant
+returns c = rw (take_all _ _ c.loop-test-test.false) at c.loop-test.invariant

@@ -1,7 +1,6 @@
 use Rattle.std.proofs.Common.{refl}
 use Rattle.violation.proofs.SplitLemmas.{tiers_split}
 use Rattle.check_laws.proofs.{RightStates.certified_from_right, Soundness.sound_from_certified}
-use Rattle.cert_check.specs.FirstFaults.{IsFirstFault, asked_by}
 use Rattle.cert_check.proofs.{Certifying.certified_if_faultless, CheckSteps.states_in_order}
 use Rattle.cert_check.proofs.{Faultless.faultless_if_certified, Stops.stop_said}
 use Rattle.grammar_reader.proofs.OverTiers.{over_tiers}
@@ -10,20 +9,14 @@ use Rattle.cert_check.proofs.whole.check.Goals as goal
 pub returns-in-Ok-clause-sound : goal.returns-in-Ok-clause-sound
 returns-in-Ok-clause-sound c same =
     let g = c.args.grammar.now in
-    let answer = c.args.answer.now in
-    let problem = asked_by g answer in
-    sound_from_certified problem answer (tiers_split g.tiers.kinds.items) (over_tiers g)
-    (certified_if_faultless problem answer c.in-Ok.ensures.ok refl) (states_in_order g answer c.requires)
+    sound_from_certified _ _ (tiers_split _) (over_tiers g) (certified_if_faultless _ _ c.in-Ok.ensures.ok refl)
+    (states_in_order g _ c.requires)
 
 pub returns-in-Err-Found-clause-right : goal.returns-in-Err-Found-clause-right
 returns-in-Err-Found-clause-right c right form short =
     let g = c.args.grammar.now in
-    let answer = c.args.answer.now in
-    let problem = asked_by g answer in
-    let first : IsFirstFault problem answer c.in-Err-Found.fault =
-    stop_said (IsFirstFault problem answer) c.in-Err-Found.field-0 c.in-Err-Found.fault
-    c.in-Err-Found.field-0-is c.in-Err-Found.ensures.err in
-    absurd (faultless_if_certified problem answer (states_in_order g answer c.requires)
-    (certified_from_right problem answer
-    (record { split = tiers_split g.tiers.kinds.items; over = over_tiers g; form = form; right = right }) short)
+    let first =
+    stop_said _ _ _ c.in-Err-Found.field-0-is c.in-Err-Found.ensures.err in
+    absurd (faultless_if_certified _ _ (states_in_order g _ c.requires)
+    (certified_from_right _ _ (record { split = tiers_split _; over = over_tiers g; form = form; right = right }) short)
     c.in-Err-Found.fault first.place first.is)

@@ -1,5 +1,4 @@
 use Rattle.std.proofs.lemmas.Result.{on_ok_weaker}
-use Rattle.cert_check.specs.FirstFaults.{asked_by}
 use Rattle.cert_check.proofs.CheckSteps.{ready_by, right_before, faultless_whole}
 use Rattle.cert_check.proofs.whole.check_all.Goals as goal
 
@@ -9,14 +8,11 @@ check_stages-requires-clause-ready c = ready_by _ c.requires c.in_ok-shape.ensur
 pub check_states-requires : goal.check_states-requires
 check_states-requires c = record {
   ready = ready_by _ c.requires c.in_ok-shape.ensures c.in_ok-check_head.ensures.ok;
-  right = right_before (asked_by c.args.grammar.now c.args.answer.now) c.args.answer.now
-      c.in_ok-check_head.ensures.ok c.in_ok-check_stages.ensures.ok;
+  right = right_before _ _ c.in_ok-check_head.ensures.ok c.in_ok-check_stages.ensures.ok;
 }
 
 pub returns-clause-ok : goal.returns-clause-ok
 returns-clause-ok c =
-    let problem = asked_by c.args.grammar.now c.args.answer.now in
-    on_ok_weaker c.check_states.result
-    (faultless_whole problem c.args.answer.now
-    (right_before problem c.args.answer.now c.in_ok-check_head.ensures.ok c.in_ok-check_stages.ensures.ok))
+    on_ok_weaker _
+    (faultless_whole _ _ (right_before _ _ c.in_ok-check_head.ensures.ok c.in_ok-check_stages.ensures.ok))
     c.check_states.ensures.ok

@@ -61,10 +61,10 @@ def tool(name, *words, given=""):
     return done.stderr, done.returncode
 
 
-def printed(name, *words):
+def printed(name, *words, given=""):
     """What a tool prints of these words, and its status."""
-    done = subprocess.run([sys.executable, os.path.join("tools", name), *words], cwd=TOP, capture_output=True,
-                          text=True)
+    done = subprocess.run([sys.executable, os.path.join("tools", name), *words], cwd=TOP, input=given,
+                          capture_output=True, text=True)
     return done.stdout, done.returncode
 
 
@@ -247,6 +247,32 @@ def test_typology():
         judge("wrong words", tool("otp_typology.py", *words), ("otp_typology: %s\n" % wanted, 1))
 
 
+def test_argue():
+    """Arguments and strata of tableaux, what follows from others, and what no ranking agrees with."""
+    ranked = os.path.join(TOP, "examples", "ranked")
+    judge("arguments", printed("otp_argue.py", given=otp("tableau", ranked + ".otp", "[ ]", ranked + ".rows")), (
+        "[ ]: [[ ]] wins\n  Max Dep One\n  W       L    [- ]-\n      W   W    -[ [| ]]\n"
+        "arguments:\n  Max >> One\nstrata: Max Dep >> One\n", 0))
+    row = "  empty A B C\n> empty 0 %s 1\n  empty 1 %s 0\n"
+    turned = "  empty A B C\n> empty 1 0 0\n  empty 0! 0 1\n"
+    judge("none", printed("otp_argue.py", given="  empty A\n> empty 0\n  empty 1!\n"),
+          ("empty: empty wins\n  A\n  W  empty\narguments: none\nstrata: A\n", 0))
+    judge("one or the other", printed("otp_argue.py", given=row % (0, 2))[0].split("\n", 4)[4],
+          "  A or B >> C\nstrata: A B >> C\n")
+    judge("both of them", printed("otp_argue.py", given=row % (0, 0) + row % (3, 2))[0].split("arguments:\n")[1],
+          "  A >> B C\nstrata: A >> B C\n")
+    chain = "  empty A B C\n> empty 1 1 1\n  empty 2 0 1\n  empty 1 2 0\n  empty 2 1 0\n"
+    judge("a chain", printed("otp_argue.py", given=chain)[0].split("arguments:\n")[1],
+          "  A >> B\n  B >> C\nstrata: A >> B >> C\n")
+    judge("no ranking", tool("otp_argue.py", given=row % (0, 0) + turned), (
+        "otp_argue: no ranking lets all of these win\n", 1))
+    judge("other constraints", tool("otp_argue.py", given=row % (0, 0) + "  empty D\n> empty 0\n")[1], 1)
+    for text, wanted in [("", "nothing to read; what otp wrote to standard error says why"),
+                         ("counts 1\n", "this is no line of a tableau: counts 1"),
+                         ("> empty 0\n", "a tableau begins with the form and the names of the constraints")]:
+        judge("no tableau", tool("otp_argue.py", given=text), ("otp_argue: %s\n" % wanted, 1))
+
+
 def test_pages():
     """The man page is made from FORMATS.md, and the completions know each command of it."""
     with open(os.path.join(TOP, "docs", "FORMATS.md"), encoding="utf-8") as file:
@@ -284,6 +310,7 @@ def test_r():
 def main():
     """All tests."""
     test_typology()
+    test_argue()
     test_pages()
     test_r()
     test_wrong_words()

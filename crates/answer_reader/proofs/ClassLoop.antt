@@ -12,8 +12,7 @@ behind_sets sets more = option_map (λ xs. sets ++ xs) more
 pub set_more : (sets : List ℕ) (x : ℕ) (o : Option (List ℕ)) → behind_sets sets (option_map (λ xs. x ∷ xs) o)
     ≡ behind_sets (sets ++ x ∷ []) o
 set_more sets x None = refl
-set_more sets x (Some xs) = ap (λ (ys : List ℕ). let r : Option (List ℕ) = Some ys in r)
-    (sym (append_assoc sets (x ∷ []) xs))
+set_more sets x (Some xs) = ap (λ (ys : List ℕ). let r = Some ys in r) (sym (append_assoc sets (x ∷ []) xs))
 
 with_tier : (sets rest behind : List ℕ) (m x : ℕ) (whole : Option (List ℕ)) → decode_set rest ≡ Some (x, behind)
     → behind_sets sets (class_of (suc m) rest) ≡ whole → behind_sets (sets ++ x ∷ []) (class_of m behind) ≡ whole
@@ -49,7 +48,7 @@ length_at : (width : ℕ) (o : Option (ℕ × List ℕ)) (sets : List ℕ)
     → option_and_then (λ (front : ℕ × List ℕ). option_map (λ xs. front.0 ∷ xs) (class_of width front.1)) o ≡ Some sets
     → length sets ≡ suc width
 length_at width None sets h e = absurd (let n : ⊥ = cc in n)
-length_at width (Some front) sets h e = by (class_of width front.1) refl e
+length_at width (Some front) sets h e = by _ refl e
   where
     by : (o : Option (List ℕ)) → class_of width front.1 ≡ o → option_map (λ xs. front.0 ∷ xs) o ≡ Some sets
         → length sets ≡ suc width
@@ -60,4 +59,4 @@ length_at width (Some front) sets h e = by (class_of width front.1) refl e
 pub class_width : (width : ℕ) (bytes sets : List ℕ) → class_of width bytes ≡ Some sets → length sets ≡ width
 class_width zero [] sets e = let same : [] ≡ sets = cc in sym (ap length same)
 class_width zero (b ∷ bytes) sets e = absurd (let n : ⊥ = cc in n)
-class_width (suc width) bytes sets e = length_at width (set_and_rest bytes) sets (class_width width) e
+class_width (suc width) bytes sets e = length_at _ _ _ (class_width width) e

@@ -35,17 +35,15 @@ pub number_read : (bound : ℕ) (words : List (List ℕ)) (k : ℕ) (numbers : L
     → AreNumbers bound words k numbers → k < length words → word ≡ get_or words k word
     → Some n ≡ number_below bound word → AreNumbers bound words (suc k) (numbers ++ n ∷ [])
 number_read bound words k numbers word n are l e is = record {
-  rest = sym (set_more numbers n (numbers_below bound (drop (suc k) words)))
-      ∙ ap (λ o. behind_sets numbers (with_rest bound words k o)) is
-      ∙ ap (behind_sets numbers) (sym (numbers_at bound words k word l e)) ∙ are.rest;
+  rest = sym (set_more _ n _) ∙ ap (λ o. behind_sets numbers (with_rest bound words k o)) is ∙ ap (behind_sets numbers)
+      (sym (numbers_at _ _ k _ l e)) ∙ are.rest;
 }
 
 pub number_missing : (bound : ℕ) (words : List (List ℕ)) (k : ℕ) (numbers : List ℕ) (word : List ℕ)
     → AreNumbers bound words k numbers → k < length words → word ≡ get_or words k word
     → None ≡ number_below bound word → None ≡ numbers_below bound words
-number_missing bound words k numbers word are l e is =
-    ap (λ o. behind_sets numbers (with_rest bound words k o)) is
-    ∙ ap (behind_sets numbers) (sym (numbers_at bound words k word l e)) ∙ are.rest
+number_missing bound words k numbers word are l e is = ap (λ o. behind_sets numbers (with_rest bound words k o)) is
+    ∙ ap (behind_sets numbers) (sym (numbers_at _ _ k _ l e)) ∙ are.rest
 
 drop_all : {X : Type 0} (xs : List X) → drop (length xs) xs ≡ []
 drop_all [] = refl
@@ -54,7 +52,7 @@ drop_all (x ∷ xs) = drop_all xs
 pub numbers_read : (bound : ℕ) (words : List (List ℕ)) (k : ℕ) (numbers : List ℕ) → AreNumbers bound words k numbers
     → k ≡ length words → Some numbers ≡ numbers_below bound words
 numbers_read bound words k numbers are e =
-    ap (λ (ns : List ℕ). let r : Option (List ℕ) = Some ns in r) (sym (append-nil numbers))
+    ap (λ (ns : List ℕ). let r = Some ns in r) (sym (append-nil numbers))
     ∙ ap (λ ws. behind_sets numbers (numbers_below bound ws)) (sym (ap (λ j. drop j words) e ∙ drop_all words))
     ∙ are.rest
 
@@ -74,8 +72,7 @@ length_at words bound (Some n) ns h e = by (numbers_below bound words) refl e
 numbers_length : (bound : ℕ) (words : List (List ℕ)) (ns : List ℕ) → numbers_below bound words ≡ Some ns → length ns
     ≡ length words
 numbers_length bound [] ns e = let same : [] ≡ ns = cc in sym (ap length same)
-numbers_length bound (word ∷ words) ns e = length_at words bound (number_below bound word) ns
-    (numbers_length bound words) e
+numbers_length bound (word ∷ words) ns e = length_at _ _ _ ns (numbers_length bound words) e
 
 said_size : (constraints : ℕ) (runs : List (List ℕ)) (ns : List ℕ) (t : Bool)
     → ((length runs == constraints) && list_all is_run runs) ≡ t
@@ -87,14 +84,13 @@ said_size constraints runs ns true e h = by (numbers_below 1000000001 runs) refl
     by None is g = absurd (let n : ⊥ = cc in n)
     by (Some ms) is g =
         let same : ms ≡ ns = cc in
-        sym (ap length same) ∙ numbers_length 1000000001 runs ms is
+        sym (ap length same) ∙ numbers_length _ _ ms is
         ∙ eqb-true (length runs) constraints (and_parts (length runs == constraints) (list_all is_run runs) e).0
 
 counts_size : (constraints : ℕ) (words : Option (List (List ℕ))) (ns : List ℕ) → counts_said constraints words ≡ Ok ns
     → length ns ≡ constraints
 counts_size constraints None ns h = absurd (let n : ⊥ = cc in n)
-counts_size constraints (Some runs) ns h = said_size constraints runs ns
-    ((length runs == constraints) && list_all is_run runs) refl h
+counts_size constraints (Some runs) ns h = said_size _ _ ns _ refl h
 
 -- one count for each constraint
 pub one_each : (constraints : ℕ) (line : List ℕ) (said : Result (Vec ℕ Global) AnswerCause)
@@ -103,8 +99,5 @@ pub one_each : (constraints : ℕ) (line : List ℕ) (said : Result (Vec ℕ Glo
     (λ c. counts_of constraints line ≡ Err c)
     → MatchResult said (λ counts. result ≡ Ok counts) (λ c. result ≡ Err (cause c))
     → IfOk result (λ counts. length counts.items ≡ constraints)
-one_each constraints line (Ok counts) result cause h r = subst
-    (λ x. IfOk x (λ counts. length counts.items ≡ constraints)) (sym r)
-    (counts_size constraints (counts_words line) counts.items h)
-one_each constraints line (Err c) result cause h r = subst (λ x. IfOk x (λ counts. length counts.items ≡ constraints))
-    (sym r) tt
+one_each constraints line (Ok counts) result cause h r = rw r (counts_size _ _ _ h)
+one_each constraints line (Err c) result cause h r = rw r tt

@@ -44,14 +44,14 @@ some_cut b bytes parts (Some k) e h =
     record { place = k; at = e; before = ap (λ p. p.0) (sym is); after = ap (λ p. p.1) (sym is) }
 
 pub is_cut : (b : ℕ) (bytes : List ℕ) (parts : List ℕ × List ℕ) → cut b bytes ≡ Some parts → IsCut b bytes parts
-is_cut b bytes parts h = some_cut b bytes parts (position (λ x. x == b) bytes) refl h
+is_cut b bytes parts h = some_cut b _ _ _ refl h
 
 -- a line ends at the first end of a line
 pub line_cut : (bytes : List ℕ) (parts : List ℕ × List ℕ) → cut 10 bytes ≡ Some parts → lines_of bytes
     ≡ parts.0 ∷ lines_of parts.1
 line_cut bytes parts h =
-    let c = is_cut 10 bytes parts h in
-    let p = position_some is_newline bytes c.place c.at in
+    let c = is_cut 10 _ _ h in
+    let p = position_some is_newline bytes _ c.at in
     slice_split_first is_newline bytes 0 p.0
     ∙ ap (λ k. take k bytes ∷ lines_of (drop (k + 1) bytes)) (sym p.1)
     ∙ ap (λ x. x ∷ lines_of (drop (c.place + 1) bytes)) (sym c.before) ∙ ap (λ x. parts.0 ∷ lines_of x) (sym c.after)
@@ -62,16 +62,14 @@ front_at : (word line tail : List ℕ) → list_any is_newline word ≡ false �
     ≡ begins word line
 front_at [] line tail h = refl
 front_at (w ∷ word) [] tail h = ap (λ t. t && bytes_eq (take (length word) tail) word)
-    (ne_eqb 10 w (λ e. false≢true (sym (or_parts (w == 10) (list_any is_newline word) h).0 ∙ is_ten w (sym e))))
+    (ne_eqb 10 w (λ e. false≢true (sym (or_parts _ _ h).0 ∙ is_ten w (sym e))))
   where
     is_ten : (n : ℕ) → n ≡ 10 → (n == 10) ≡ true
     is_ten n e = ap (λ m. m == 10) e
-front_at (w ∷ word) (b ∷ line) tail h = ap (λ t. nat_eq b w && t)
-    (front_at word line tail (or_parts (w == 10) (list_any is_newline word) h).1)
+front_at (w ∷ word) (b ∷ line) tail h = ap (λ t. nat_eq b w && t) (front_at word line tail (or_parts _ _ h).1)
 
 pub begins_line : (word bytes line next : List ℕ) (lines : List (List ℕ)) → list_any is_newline word ≡ false
     → lines_of bytes ≡ line ∷ next ∷ lines → begins word bytes ≡ begins word line
 begins_line word bytes line next lines n e =
-    let whole : bytes ≡ line ++ 10 ∷ join_with_byte 10 (next ∷ lines) = sym (join_with_byte-slice_split 10 bytes)
-    ∙ ap (join_with_byte 10) e in
+    let whole = sym (join_with_byte-slice_split 10 _) ∙ ap (join_with_byte 10) e in
     ap (begins word) whole ∙ front_at word line (join_with_byte 10 (next ∷ lines)) n

@@ -61,7 +61,7 @@ decimal_digits = decimal_by_steps AreDigitsOf
 pub run_decimal : (n : ℕ) → n < 2 ^ 64 → is_run (decimal n) ≡ true
 run_decimal n l =
     let d = decimal_digits n l in
-    and_from (nat_lt 0 (length (decimal n))) (list_all is_digit (decimal n))
+    and_from _ _
     (let some : nat_lt 0 (length (decimal n)) ≡ true = grind (arith, nat_tests, d.some) in some) d.digits
 
 below : (bound n : ℕ) → n < bound → cond (nat_lt n bound) (Some n) None ≡ Some n
@@ -72,14 +72,12 @@ pub number_decimal : (bound n : ℕ) → n < bound → n < 2 ^ 64 → number_bel
 number_decimal bound n l k =
     let d = decimal_digits n k in
     ap (λ t. cond t None (cond (nat_lt (value_from 0 (decimal n)) bound) (Some (value_from 0 (decimal n))) None))
-    d.plain
-    ∙ ap (λ v. cond (nat_lt v bound) (Some v) None) d.value ∙ below bound n l
+    d.plain ∙ ap (λ v. cond (nat_lt v bound) (Some v) None) d.value ∙ below _ n l
 
 -- no digit is another byte
 other_byte : (b d : ℕ) → is_digit b ≡ false → is_digit d ≡ true → (d == b) ≡ false
 other_byte b d other is = ne_eqb d b
-    (λ e. absurd (let same : is_digit d ≡ is_digit b = ap is_digit e in let bad : false ≡ true = sym other ∙ sym same
-    ∙ is in cc))
+    (λ e. absurd (let same = ap is_digit e in let bad = sym other ∙ sym same ∙ is in cc))
 
 digits_without : (b : ℕ) → is_digit b ≡ false → (ds : List ℕ) → list_all is_digit ds ≡ true
     → list_any (λ x. x == b) ds ≡ false
@@ -89,4 +87,4 @@ digits_without b other (d ∷ ds) h =
     ap (λ t. t || list_any (λ x. x == b) ds) (other_byte b d other p.0) ∙ digits_without b other ds p.1
 
 pub decimal_without : (b n : ℕ) → is_digit b ≡ false → n < 2 ^ 64 → list_any (λ x. x == b) (decimal n) ≡ false
-decimal_without b n other l = digits_without b other (decimal n) (decimal_digits n l).digits
+decimal_without b n other l = digits_without b other _ (decimal_digits n l).digits

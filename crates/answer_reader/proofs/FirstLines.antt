@@ -22,13 +22,11 @@ pub takes_said : {X Y : Type 0} (of : List ℕ → Result X AnswerCause) (seen :
     → MatchResult said (λ y. of line ≡ Ok (seen y)) (λ cause. of line ≡ Err cause)
     → MatchResult said (λ y. result ≡ Ok y) (λ cause. result ≡ Err (code.At old.number cause))
     → Takes of seen old new result
-takes_said {X} {Y} of seen old new line (Ok y) result lines number is r =
-    subst (Takes of seen old new) (sym r) (
-      two_lines (lines_left old) line (lines_left new) lines (some_left new.rest.now) of old.number
-          ∙ ap (λ s. go_on s old.number (λ x. let q : Result (X × List (List ℕ)) At = Ok (x, lines_left new) in q)) is,
-      number,
-    )
-takes_said {X} {Y} of seen old new line (Err cause) result lines number is r =
-    subst (Takes of seen old new) (sym r)
-    (two_lines (lines_left old) line (lines_left new) lines (some_left new.rest.now) of old.number
-    ∙ ap (λ s. go_on s old.number (λ x. let q : Result (X × List (List ℕ)) At = Ok (x, lines_left new) in q)) is)
+takes_said {X} {Y} of seen old new line (Ok y) result lines number is r = rw r (
+  two_lines _ _ _ lines (some_left new.rest.now) of _
+      ∙ ap (λ s. go_on s old.number (λ x. let q = Ok (x, lines_left new) in q)) is,
+  number,
+)
+takes_said {X} {Y} of seen old new line (Err cause) result lines number is r = rw r
+    (two_lines _ _ _ lines (some_left new.rest.now) of _
+    ∙ ap (λ s. go_on s old.number (λ x. let q = Ok (x, lines_left new) in q)) is)

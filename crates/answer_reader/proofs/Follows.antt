@@ -23,9 +23,8 @@ pub follows_seen : {X Y : Type 0} (seen : Y → X) (less : X → X → Bool) (ys
     → follows less (map seen ys) x ≡ less (seen last) x
 follows_seen seen less ys x last l e =
     let n = length-map ys seen in
-    follows_last less (map seen ys) x (seen last) (omega arith)
-    ∙ ap (λ w. less w x) (ap (λ k. get_or (map seen ys) (k - 1) (seen last)) n
-    ∙ get_or-map seen ys (length ys - 1) last (seen last) (omega arith) ∙ ap seen (sym e))
+    follows_last less (map seen ys) x (seen last) (omega arith) ∙ ap (λ w. less w x)
+    (ap (λ k. get_or (map seen ys) (k - 1) (seen last)) n ∙ get_or-map _ ys _ _ _ (omega arith) ∙ ap seen (sym e))
 
 -- as the code tells that one comes before another
 pub less_told : (o : Ordering) → (ordering_index o == 0) ≡ is_lt o

@@ -7,7 +7,7 @@ use Rattle.answer_reader.specs.declared.answer_err.AnswerErr.TheVariants as code
 
 -- an error of what is the same
 pub fails_from : {X : Type 0} (e : AnswerErr) (a b : Result X At) → a ≡ b → Fails e b → Fails e a
-fails_from e a b is f = subst (Fails e) (sym is) f
+fails_from e a b is f = rw is f
 
 -- the error of a part is that of the whole
 pub fails_then : {X Y : Type 0} (e : AnswerErr) (more : X → Result Y At) (r : Result X At) → Fails e r
@@ -27,8 +27,7 @@ takes_on of seen more old new y t =
 pub takes_fails : {X Y Z : Type 0} (of : List ℕ → Result X AnswerCause) (seen : Y → X)
     (more : X → ℕ → List (List ℕ) → Result Z At) (old new : Lines) (e : AnswerErr)
     → Takes of seen old new (Err e) → Fails e (line_then of more old.number (lines_left old))
-takes_fails of seen more old new e t = fails_then e (λ read. more read.0 (old.number + 1) read.1)
-    (first_line of old.number (lines_left old)) (told e t)
+takes_fails of seen more old new e t = fails_then e _ _ (told e t)
   where
     told : (e : AnswerErr) → Takes of seen old new (Err e) → Fails e (first_line of old.number (lines_left old))
     told e t = t

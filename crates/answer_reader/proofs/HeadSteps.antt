@@ -18,11 +18,9 @@ module _ (shape : Shape) (old l m n : Lines) (u : Unit {0}) (form : List (List S
 
   behind_counts : answer_from shape old.number (lines_left old)
       ≡ line_then (example_of shape) with_example n.number (lines_left n)
-  behind_counts =
-      takes_on header_of (λ (x : Unit {0}). tt) (λ header. line_then (form_of shape) (behind_form shape)) old l u header
+  behind_counts = takes_on header_of _ (λ header. line_then (form_of shape) (behind_form shape)) old l u header
       ∙ takes_on (form_of shape) (λ (T : List (List Sym)). T) (behind_form shape) l m form said
-      ∙ takes_on (counts_of (constraint_count shape)) (λ (ns : List ℕ). ns)
-      (λ ns. line_then (example_of shape)
+      ∙ takes_on (counts_of (constraint_count shape)) (λ (ns : List ℕ). ns) (λ ns. line_then (example_of shape)
       (λ example. stages_behind shape (record { form = form; counts = ns; example = example }))) m n counts numbers
 
   pub head_read : (new : Lines) (example : List (List Sym))
@@ -34,7 +32,5 @@ module _ (shape : Shape) (old l m n : Lines) (u : Unit {0}) (form : List (List S
   pub head_refused : (new : Lines) (e : AnswerErr)
       → Takes (example_of shape) (λ (T : List (List Sym)). T) n new (Err e)
       → Fails e (answer_from shape old.number (lines_left old))
-  head_refused new e t =
-      fails_from e (answer_from shape old.number (lines_left old))
-      (line_then (example_of shape) with_example n.number (lines_left n)) behind_counts
-      (takes_fails (example_of shape) (λ (T : List (List Sym)). T) with_example n new e t)
+  head_refused new e t = fails_from e _ _ behind_counts (takes_fails (example_of shape) (λ (T : List (List Sym)). T)
+      with_example n new e t)

@@ -15,7 +15,7 @@ use Rattle.answer_reader.specs.Decoding.{with_symbol, symbols_from, has_two, clo
 
 pub begins_split : (front bytes : List ℕ) → begins front bytes ≡ true → bytes ≡ front ++ drop (length front) bytes
 begins_split front bytes h = sym (take-append-drop (length front) bytes)
-    ∙ ap (λ f. f ++ drop (length front) bytes) ((bytes_eq-Decides (take (length front) bytes) front).0 h)
+    ∙ ap (λ f. f ++ drop (length front) bytes) ((bytes_eq-Decides _ _).0 h)
 
 pub take_front : (front rest : List ℕ) → take (length front) (front ++ rest) ≡ front
 take_front [] rest = refl
@@ -26,7 +26,7 @@ drop_front [] rest = refl
 drop_front (b ∷ front) rest = drop_front front rest
 
 pub begins_front : (front rest : List ℕ) → begins front (front ++ rest) ≡ true
-begins_front front rest = (bytes_eq-Decides (take (length front) (front ++ rest)) front).1 (take_front front rest)
+begins_front front rest = (bytes_eq-Decides _ front).1 (take_front _ rest)
 
 -- ---- each text of a set is decoded as that set
 
@@ -124,13 +124,13 @@ each_decoded = (
 
 found_at : (P : ℕ → Type 0) (test : ℕ → Bool) (y : ℕ) (ys : List ℕ) (x : ℕ) (t : Bool) → test y ≡ t → P y
     → (find test ys ≡ Some x → (test x ≡ true) × P x) → cond t (Some y) (find test ys) ≡ Some x → (test x ≡ true) × P x
-found_at P test y ys x true e p rest h = let same : y ≡ x = cc in (sym (ap test same) ∙ e, subst P same p)
+found_at P test y ys x true e p rest h = let same : y ≡ x = cc in (sym (ap test same) ∙ e, rw same at p)
 found_at P test y ys x false e p rest h = rest h
 
 found : (P : ℕ → Type 0) (test : ℕ → Bool) (xs : List ℕ) (x : ℕ) → AllByRecursion P xs → find test xs ≡ Some x
     → (test x ≡ true) × P x
 found P test [] x a h = absurd (let n : ⊥ = cc in n)
-found P test (y ∷ ys) x a h = found_at P test y ys x (test y) refl a.0 (found P test ys x a.1) h
+found P test (y ∷ ys) x a h = found_at P _ y ys x _ refl a.0 (found P test ys x a.1) h
 
 none_at : (test : ℕ → Bool) (a n x : ℕ) (t : Bool) → test a ≡ t
     → (a + 1 ≤ x → find test (range_with_len (a + 1) n) ≡ None → test x ≡ false)
@@ -143,8 +143,7 @@ none_at test a n x false e rest h l = ⊎_elim
 
 none_passes : (test : ℕ → Bool) (a n x : ℕ) → find test (range_with_len a n) ≡ None → a ≤ x → x < a + n → test x ≡ false
 none_passes test a zero x h l u = absurd (omega arith)
-none_passes test a (suc n) x h l u = none_at test a n x (test a) refl
-    (λ k g. none_passes test (a + 1) n x g k (omega arith)) h l
+none_passes test a (suc n) x h l u = none_at _ a n x _ refl (λ k g. none_passes test (a + 1) n x g k (omega arith)) h l
 
 -- ---- what is decoded stands at the front
 
@@ -170,7 +169,7 @@ took_at bit byte set b bytes false e = record { flag = false; set = omega arith;
 
 took : (bit byte : ℕ) (before : ℕ × List ℕ) → Took bit byte before (with_symbol bit byte before)
 took bit byte (set, []) = record { flag = false; set = omega arith; text = refl }
-took bit byte (set, b ∷ bytes) = took_at bit byte set b bytes (b == byte) refl
+took bit byte (set, b ∷ bytes) = took_at _ _ _ b _ _ refl
 
 -- what was taken of the five symbols, and what is left
 record Symbols (bytes : List ℕ) (after : ℕ × List ℕ) : Type 0 where
@@ -227,10 +226,7 @@ unfolding both
 all_braces = refl
 
 in_braces : (a b c d e : Bool) → braces a b c d e ≡ true
-in_braces a b c d e = at_both (braces a b c d) e
-    (at_both (λ d. both (braces a b c d)) d (at_both (λ c. both (λ d. both (braces a b c d))) c
-    (at_both (λ b. both (λ c. both (λ d. both (braces a b c d)))) b
-    (at_both (λ a. both (λ b. both (λ c. both (λ d. both (braces a b c d))))) a all_braces))))
+in_braces a b c d e = at_both _ e (at_both _ d (at_both _ c (at_both _ b (at_both _ a all_braces))))
 
 -- a set from 1 to 31 whose text stands at the front
 record IsFront (bytes : List ℕ) (front : ℕ × List ℕ) : Type 0 where
@@ -249,7 +245,7 @@ braced_at n true text braced h e =
     let both = and_parts (bytes_eq text braced) (nat_le 1 n && nat_lt n 32)
     (and_first (bytes_eq text braced) (nat_le 1 n) (nat_lt n 32) h) in
     let rest = and_parts (nat_le 1 n) (nat_lt n 32) both.1 in
-    ((bytes_eq-Decides text braced).0 both.0, (leb-true 1 n rest.0, ltb-true n 32 rest.1))
+    ((bytes_eq-Decides _ _).0 both.0, (leb-true 1 n rest.0, ltb-true n 32 rest.1))
   where
     and_first : (x y z : Bool) → (x && y && z) ≡ true → (x && (y && z)) ≡ true
     and_first true y z h = h
@@ -279,7 +275,7 @@ closed_at bytes n b rest front s false e h = absurd (let n : ⊥ = cc in n)
 closed : (bytes : List ℕ) (after front : ℕ × List ℕ) → Symbols bytes after → closed_by after ≡ Some front
     → IsFront (123 ∷ bytes) front
 closed bytes (n, []) front s h = absurd (let n : ⊥ = cc in n)
-closed bytes (n, b ∷ rest) front s h = closed_at bytes n b rest front s (has_two n && (b == 125)) refl h
+closed bytes (n, b ∷ rest) front s h = closed_at _ n b _ _ s _ refl h
 
 single : (s : Sym) → (set_text (single_set s) ≡ byte_of s ∷ []) × ((1 ≤ single_set s) × (single_set s < 32))
 single Outside = (refl, (omega arith, omega arith))
@@ -296,7 +292,7 @@ sym_here b x xs s false e rest h = rest h
 
 sym_at : (b : ℕ) (xs : List Sym) (s : Sym) → find (λ x. byte_of x == b) xs ≡ Some s → byte_of s ≡ b
 sym_at b [] s h = absurd (let n : ⊥ = cc in n)
-sym_at b (x ∷ xs) s h = sym_here b x xs s (byte_of x == b) refl (sym_at b xs s) h
+sym_at b (x ∷ xs) s h = sym_here b x xs s _ refl (sym_at b xs s) h
 
 alone_front : (b : ℕ) (bytes : List ℕ) (o : Option Sym) (front : ℕ × List ℕ) → sym_of b ≡ o
     → option_map (single_and_rest bytes) o ≡ Some front → IsFront (b ∷ bytes) front
@@ -315,13 +311,12 @@ alone_front b bytes (Some s) front e h =
 decoded_at : (b : ℕ) (bytes : List ℕ) (front : ℕ × List ℕ) (t : Bool) → (b == 123) ≡ t
     → cond t (closed_by (symbols_from bytes)) (option_map (single_and_rest bytes) (sym_of b)) ≡ Some front
     → IsFront (b ∷ bytes) front
-decoded_at b bytes front true e h = subst (λ x. IsFront (x ∷ bytes) front) (sym (eqb-true b 123 e))
-    (closed bytes (symbols_from bytes) front (symbols bytes) h)
-decoded_at b bytes front false e h = alone_front b bytes (sym_of b) front refl h
+decoded_at b bytes front true e h = rw (eqb-true b 123 e) (closed _ _ _ (symbols _) h)
+decoded_at b bytes front false e h = alone_front b _ _ _ refl h
 
 stands : (bytes : List ℕ) (front : ℕ × List ℕ) → decode_set bytes ≡ Some front → IsFront bytes front
 stands [] front h = absurd (let n : ⊥ = cc in n)
-stands (b ∷ bytes) front h = decoded_at b bytes front (b == 123) refl h
+stands (b ∷ bytes) front h = decoded_at b _ _ _ refl h
 
 -- ---- so both find the same
 

@@ -67,14 +67,10 @@ module _ (shape : Shape) (columns : ℕ) (stages : List Stage) (nodes : List Nod
       → IsInStage shape columns stages count old now left nodes
       → Takes (next_node shape columns (length stages) node_values) (node_value shape (length stages)) now new (Err e)
       → Fails e (stages_from shape columns (with_nodes values count []) old.number (lines_left old))
-  node_refused count left old now new e one is t =
-      fails_from e (stages_from shape columns (with_nodes values count []) old.number (lines_left old))
-      (line_then (next_node shape columns (length stages) node_values)
-      (λ node. stages_from shape columns (with_nodes values more (node_values ++ node ∷ []))) now.number
-      (lines_left now))
+  node_refused count left old now new e one is t = fails_from e _ _
       (is.goes_on ∙ ap (λ k. stages_from shape columns (with_nodes values k node_values) now.number (lines_left now))
-      one ∙ node_here now.number (lines_left now))
-      (takes_fails (next_node shape columns (length stages) node_values) (node_value shape (length stages))
+      one ∙ node_here now.number (lines_left now)) (takes_fails (next_node shape columns (length stages) node_values)
+      (node_value shape (length stages))
       (λ x. stages_from shape columns (with_nodes values more (node_values ++ x ∷ []))) now new e t)
 
 module _ (shape : Shape) (columns : ℕ) (stages : List Stage) (old : Lines) where

@@ -35,12 +35,11 @@ module _ (shape : Shape) (columns : ℕ) (stages : List (List NodeValue)) (n : �
       (λ nodes. stages_from shape columns (with_nodes stages nodes [])) n lines
   stage_at [] e h = refl
   stage_at (left ∷ []) e h = refl
-  stage_at (line ∷ next ∷ lines) e h =
-      ap (λ t. cond t (go_on (automaton_of (last_count stages) line) n (stages_read stages (n + 1) (next ∷ lines)))
-      (go_on (stage_of (length shape.phases.items) (length stages) line) n
-      (λ nodes. stages_from shape columns (with_nodes stages nodes []) (n + 1) (next ∷ lines))))
-      (tested line next lines false e h)
-      ∙ go_on_then (stage_of (length shape.phases.items) (length stages) line) n (next ∷ lines)
+  stage_at (line ∷ next ∷ lines) e h = ap
+      (λ t. cond t (go_on (automaton_of (last_count stages) line) n (stages_read stages (n + 1) (next ∷ lines)))
+      (go_on (stage_of (length shape.phases.items) (length stages) line) n (λ nodes. stages_from shape columns
+      (with_nodes stages nodes []) (n + 1) (next ∷ lines)))) (tested _ _ _ _ e h) ∙ go_on_then
+      (stage_of (length shape.phases.items) (length stages) line) n (next ∷ lines)
       (λ nodes ls. stages_from shape columns (with_nodes stages nodes []) (n + 1) ls)
 
   -- a stage that is to come
@@ -48,7 +47,7 @@ module _ (shape : Shape) (columns : ℕ) (stages : List (List NodeValue)) (n : �
       → stages_from shape columns (behind_stages stages) n (lines_of bytes)
       ≡ line_then (stage_of (length shape.phases.items) (length stages))
       (λ nodes. stages_from shape columns (with_nodes stages nodes [])) n (lines_of bytes)
-  stage_next h = stage_at (lines_of bytes) refl h
+  stage_next h = stage_at _ refl h
 
   automaton_at : (lines : List (List ℕ)) → lines_of bytes ≡ lines
       → (not (is_empty stages) && begins (codes "automaton ") bytes) ≡ true
@@ -56,16 +55,14 @@ module _ (shape : Shape) (columns : ℕ) (stages : List (List NodeValue)) (n : �
       ≡ line_then (automaton_of (last_count stages)) (λ states m ls. stages_read stages m ls states) n lines
   automaton_at [] e h = refl
   automaton_at (left ∷ []) e h = refl
-  automaton_at (line ∷ next ∷ lines) e h =
-      ap (λ t. cond t (go_on (automaton_of (last_count stages) line) n (stages_read stages (n + 1) (next ∷ lines)))
-      (go_on (stage_of (length shape.phases.items) (length stages) line) n
-      (λ nodes. stages_from shape columns (with_nodes stages nodes []) (n + 1) (next ∷ lines))))
-      (tested line next lines true e h)
-      ∙ go_on_then (automaton_of (last_count stages) line) n (next ∷ lines)
-      (λ states ls. stages_read stages (n + 1) ls states)
+  automaton_at (line ∷ next ∷ lines) e h = ap
+      (λ t. cond t (go_on (automaton_of (last_count stages) line) n (stages_read stages (n + 1) (next ∷ lines)))
+      (go_on (stage_of (length shape.phases.items) (length stages) line) n (λ nodes. stages_from shape columns
+      (with_nodes stages nodes []) (n + 1) (next ∷ lines)))) (tested _ _ _ _ e h) ∙ go_on_then
+      (automaton_of (last_count stages) line) n (next ∷ lines) (λ states ls. stages_read stages (n + 1) ls states)
 
   -- the automaton behind the stages
   pub automaton_next : (not (is_empty stages) && begins (codes "automaton ") bytes) ≡ true
       → stages_from shape columns (behind_stages stages) n (lines_of bytes)
       ≡ line_then (automaton_of (last_count stages)) (λ states m ls. stages_read stages m ls states) n (lines_of bytes)
-  automaton_next h = automaton_at (lines_of bytes) refl h
+  automaton_next h = automaton_at _ refl h

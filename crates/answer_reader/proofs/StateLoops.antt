@@ -24,7 +24,7 @@ pub record AreArcs (width nodes : ℕ) (old now : Lines) (arcs : List ArcLine) :
   pub readable : All (IsReadableArc width nodes) arcs
 
 pub arcs_start : (width nodes : ℕ) (old : Lines) (arcs : List ArcLine) → arcs ≡ [] → AreArcs width nodes old old arcs
-arcs_start width nodes old arcs none = subst (AreArcs width nodes old old) (sym none)
+arcs_start width nodes old arcs none = rw none
     (record { goes_on = λ more states state. refl; readable = λ k d l. absurd (omega arith) })
 
 module _ (width nodes : ℕ) (old now : Lines) (arcs : List ArcLine) (are : AreArcs width nodes old now arcs) where
@@ -80,10 +80,7 @@ module _ (width nodes : ℕ) (states : List StateValue) (more : ℕ) (old mid : 
 
   pub state_refused : (e : AnswerErr) → Takes (next_state nodes states) bare_state old mid (Err e)
       → Fails e (states_from width nodes (behind_states (suc more) states) old.number (lines_left old))
-  state_refused e t =
-      fails_from e (states_from width nodes (behind_states (suc more) states) old.number (lines_left old))
-      (line_then (next_state nodes states) (λ x. states_from width nodes (in_state more states x)) old.number
-      (lines_left old)) (state_next width nodes more states old.number (lines_left old))
+  state_refused e t = fails_from e _ _ (state_next width nodes more states old.number (lines_left old))
       (takes_fails (next_state nodes states) bare_state (λ x. states_from width nodes (in_state more states x)) old mid
       e t)
 
@@ -101,9 +98,7 @@ module _ (width nodes : ℕ) (states : List StateValue) (old mid : Lines) where
       (λ e. (states : List StateValue) → Fails e (at_end states mid.number (lines_left mid)))
       → Continues (states_from width nodes (behind_states 0 states)) (λ done n left. Ok states) old mid result
   end_whole u (Ok done) t h = end_read u t ∙ ap (at_end states mid.number) h
-  end_whole u (Err e) t h =
-      fails_from e (states_from width nodes (behind_states 0 states) old.number (lines_left old))
-      (at_end states mid.number (lines_left mid)) (end_read u t) (h states)
+  end_whole u (Err e) t h = fails_from e _ _ (end_read u t) (h states)
 
 -- the place of a state hangs on its node alone
 pub follows_node : (states : List StateValue) (a b : StateValue) → a.node ≡ b.node → follows state_less states a
@@ -151,8 +146,8 @@ pub one_state_more : (width nodes : ℕ) (states : List StateLine) (state : Stat
     → AreReadableStates width nodes states → follows state_less (map state_value states) (state_value state) ≡ true
     → IsReadableState width nodes state → AreReadableStates width nodes (states ++ state ∷ [])
 one_state_more width nodes states state are f is = record {
-  ascending = subst (IsStrictlySortedBy nat_cmp) (sym (map_push (λ (s : StateLine). s.node) states state))
-      (sorted_push (numbers_of states) state.node are.ascending (all_less states (state_value state) are.ascending f));
+  ascending = rw (map_push (λ (s : StateLine). s.node) states state)
+      (sorted_push _ _ are.ascending (all_less _ _ are.ascending f));
   each = All-push (IsReadableState width nodes) states state are.each is;
 }
 
@@ -168,11 +163,10 @@ pub record AreStates (width nodes count : ℕ) (old now : Lines) (left : ℕ) (s
 
 pub states_start : (width nodes count left : ℕ) (old : Lines) (states : List StateLine) → left ≡ count → states ≡ []
     → AreStates width nodes count old old left states
-states_start width nodes count left old states e none = subst (AreStates width nodes count old old left) (sym none)
-    (record {
-      goes_on = ap (λ k. states_from width nodes (behind_states k []) old.number (lines_left old)) (sym e);
-      readable = no_states width nodes;
-    })
+states_start width nodes count left old states e none = rw none (record {
+  goes_on = ap (λ k. states_from width nodes (behind_states k []) old.number (lines_left old)) (sym e);
+  readable = no_states _ _;
+})
 
 pub one_read : (width nodes count left more : ℕ) (old now new : Lines) (states : List StateLine) (state : StateLine)
     → left ≡ suc more → AreStates width nodes count old now left states
@@ -183,19 +177,16 @@ pub one_read : (width nodes count left more : ℕ) (old now new : Lines) (states
     → AreStates width nodes count old new more (states ++ state ∷ [])
 one_read width nodes count left more old now new states state one are on f is = record {
   goes_on = are.goes_on ∙ ap (λ k. states_from width nodes (behind_states k (map state_value states)) now.number
-      (lines_left now)) one ∙ on
-      ∙ ap (λ xs. states_from width nodes (behind_states more xs) new.number (lines_left new))
-      (sym (map_push state_value states state));
-  readable = one_state_more width nodes states state are.readable f is;
+      (lines_left now)) one ∙ on ∙ ap (λ xs. states_from width nodes (behind_states more xs) new.number
+      (lines_left new)) (sym (map_push _ _ _));
+  readable = one_state_more _ _ _ _ are.readable f is;
 }
 
 pub one_refused : (width nodes count left more : ℕ) (old now : Lines) (states : List StateLine) (e : AnswerErr) → left
     ≡ suc more → AreStates width nodes count old now left states
     → Fails e (states_from width nodes (behind_states (suc more) (map state_value states)) now.number (lines_left now))
     → Fails e (states_from width nodes (behind_states count []) old.number (lines_left old))
-one_refused width nodes count left more old now states e one are f =
-    fails_from e (states_from width nodes (behind_states count []) old.number (lines_left old))
-    (states_from width nodes (behind_states (suc more) (map state_value states)) now.number (lines_left now))
+one_refused width nodes count left more old now states e one are f = fails_from e _ _
     (are.goes_on ∙ ap (λ k. states_from width nodes (behind_states k (map state_value states)) now.number
     (lines_left now)) one) f
 

@@ -66,7 +66,7 @@ module _ (width nodes more : ℕ) (states : List StateValue) (state : StateValue
       → states_from width nodes (in_state more states state) n (lines_of bytes)
       ≡ line_then (next_arc width nodes state.arcs)
       (λ arc. states_from width nodes (in_state more states (with_arc state arc))) n (lines_of bytes)
-  arc_next h = arc_at (lines_of bytes) refl h
+  arc_next h = arc_at _ refl h
 
   other_at : (lines : List (List ℕ)) → lines_of bytes ≡ lines → begins (codes "arc ") bytes ≡ false
       → states_from width nodes (in_state more states state) n lines
@@ -81,4 +81,4 @@ module _ (width nodes more : ℕ) (states : List StateValue) (state : StateValue
   pub arcs_end : begins (codes "arc ") bytes ≡ false
       → states_from width nodes (in_state more states state) n (lines_of bytes)
       ≡ states_from width nodes (behind_states more (states ++ state ∷ [])) n (lines_of bytes)
-  arcs_end h = other_at (lines_of bytes) refl h
+  arcs_end h = other_at _ refl h

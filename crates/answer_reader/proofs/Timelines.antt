@@ -20,7 +20,7 @@ use Rattle.answer_reader.specs.Timelines.{is_drawn, are_drawn, unless, timeline_
 
 drawn_runs : (b : Bool) (w : List Sym) → is_drawn b w ≡ runs b w
 drawn_runs b [] = refl
-drawn_runs b (s ∷ w) = ap (λ t. fits b s && t) (drawn_runs (opens s) w)
+drawn_runs b (s ∷ w) = ap (λ t. fits b s && t) (drawn_runs _ w)
 
 well_formed_below : (n : ℕ) (T : List (List Sym)) → are_drawn n T ≡ true → (t : ℕ) → t < n
     → IsWellFormedWord (tier_word T t)
@@ -30,15 +30,12 @@ well_formed_below (suc n) T h t l =
     ⊎_elim
     (λ before. well_formed_below n T p.1 t before)
     (λ here. subst (λ (k : ℕ). IsWellFormedWord (tier_word T k)) (let same : n ≡ t = omega arith in same)
-    (well_formed_from_runs (tier_word T n) (sym (drawn_runs false (tier_word T n)) ∙ p.0)))
-    (cases_lt t n)
+    (well_formed_from_runs _ (sym (drawn_runs false (tier_word T n)) ∙ p.0))) (cases_lt t n)
 
 drawn_below : (n : ℕ) (T : List (List Sym)) → ((t : ℕ) → t < n → IsWellFormedWord (tier_word T t)) → are_drawn n T
     ≡ true
 drawn_below zero T h = refl
-drawn_below (suc n) T h =
-    and_from (is_drawn false (tier_word T n)) (are_drawn n T)
-    (drawn_runs false (tier_word T n) ∙ runs_from_well_formed (tier_word T n) (h n (omega arith)))
+drawn_below (suc n) T h = and_from _ _ (drawn_runs false (tier_word T n) ∙ runs_from_well_formed _ (h n (omega arith)))
     (drawn_below n T (λ t l. h t (omega arith)))
 
 unless_some : {X : Type 0} (o : Option ℕ) (r : Option X) (x : X) → unless o r ≡ Some x → (o ≡ None) × (r ≡ Some x)
@@ -88,12 +85,12 @@ module _ (width limit : ℕ) (bytes : List ℕ) where
   at_word : (t : Bool) (T : List (List Sym)) → bytes_eq bytes (codes "empty") ≡ t → cond t (Some []) found ≡ Some T
       → IsTextOf width limit bytes T
   at_word true T e h = let same : []
-      ≡ T = cc in subst (IsTextOf width limit bytes) same (empty_text width limit bytes (the_word bytes e))
+      ≡ T = cc in subst (IsTextOf width limit bytes) same (empty_text _ _ _ (the_word _ e))
   at_word false T e h = found_is T h
 
   -- what is found has this text
   pub timeline_is : (T : List (List Sym)) → timeline_of width limit bytes ≡ Some T → IsTextOf width limit bytes T
-  timeline_is T h = at_word (bytes_eq bytes (codes "empty")) T refl h
+  timeline_is T h = at_word _ T refl h
 
   found_for : (column : List Sym) (T : List (List Sym)) → IsTextOf width limit bytes (column ∷ T)
       → bytes ≢ codes "empty" → found ≡ Some (column ∷ T)
@@ -124,16 +121,14 @@ module _ (width limit : ℕ) (bytes : List ℕ) where
 
   -- the timeline of a text is found
   pub timeline_for : (T : List (List Sym)) → IsTextOf width limit bytes T → timeline_of width limit bytes ≡ Some T
-  timeline_for [] t = ap (λ u. cond u (Some []) found) ((bytes_eq-Decides bytes (codes "empty")).1 t.text)
-  timeline_for (column ∷ T) t =
-      ap (λ u. cond u (Some []) found) (sym (ap (λ b. bytes_eq b (codes "empty")) (sym t.text)) ∙ no_word column T)
-      ∙ found_for column T t (not_the_word bytes
-      (sym (ap (λ b. bytes_eq b (codes "empty")) (sym t.text)) ∙ no_word column T))
+  timeline_for [] t = ap (λ u. cond u (Some []) found) ((bytes_eq-Decides _ _).1 t.text)
+  timeline_for (column ∷ T) t = ap (λ u. cond u (Some []) found)
+      (sym (ap (λ b. bytes_eq b (codes "empty")) (sym t.text)) ∙ no_word _ T) ∙ found_for _ T t
+      (not_the_word _ (sym (ap (λ b. bytes_eq b (codes "empty")) (sym t.text)) ∙ no_word _ T))
 
   -- where a cause comes none is found
   pub no_timeline : (e : FormErr) → IsCause width limit bytes e → timeline_of width limit bytes ≡ None
-  no_timeline e c = by_option (timeline_of width limit bytes)
-      (λ T h. absurd (not_both width limit bytes T e (timeline_is T h) c)) (λ n. n)
+  no_timeline e c = by_option _ (λ T h. absurd (not_both _ _ _ T e (timeline_is T h) c)) (λ n. n)
 
 pub other_cause : (e : FormErr) → is_no_memory e ≡ false → e ≢ NoMemory
 other_cause e h same = false≢true (sym h ∙ ap is_no_memory same)
@@ -154,9 +149,9 @@ pub said_by : (word : List ℕ) (width limit : ℕ) (line : List ℕ) (read : Op
     → SaysTimeline word width limit line said
 said_by word width limit line None (Ok T) r s = absurd s
 said_by word width limit line (Some U) (Ok T) r s = r
-    ∙ ap (λ V. let q : Result (List (List Sym)) AnswerCause = Ok V in q) s
+    ∙ ap (λ V. let q = Ok V in q) s
 said_by word width limit line None (Err cause) r s = r
-    ∙ ap (λ c. let q : Result (List (List Sym)) AnswerCause = Err c in q) (sym s.0)
+    ∙ ap (λ c. let q = Err c in q) (sym s.0)
 said_by word width limit line (Some U) (Err cause) r s = absurd s.1
 
 pub said_of : (word : List ℕ) (width limit : ℕ) (line text : List ℕ) (read : Option (List (List Sym)))

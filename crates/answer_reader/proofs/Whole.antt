@@ -34,5 +34,4 @@ module _ (shape : Shape) (bytes : List ℕ) (start l m : Lines) (head : HeadValu
   whole_read states h = behind_the_stages ∙ ap (and_then (answer_with head the_stages)) h
 
   pub whole_refused : (e : AnswerErr) → Fails e the_states → Fails e (answer_of shape bytes)
-  whole_refused e f = fails_from e (answer_of shape bytes) (and_then (answer_with head the_stages) the_states)
-      behind_the_stages (fails_then e (answer_with head the_stages) the_states f)
+  whole_refused e f = fails_from e _ _ behind_the_stages (fails_then e _ _ f)

@@ -53,11 +53,8 @@ module _ (shape : Shape) (columns : ℕ) (narrow : columns ≤ 64) where
   node_said : (r : ℕ) (node : Node) → node.kind.place ≤ columns → node.potential ≤ 1000000000
       → node_of (free_count shape) (stretch_count shape r) columns
       (node_line (free_count shape) (stretch_count shape r) node) ≡ Ok (node_value shape r node)
-  node_said r node l m =
-      node_back (kind_in shape r node.kind) node.potential (omega arith) (omega arith) (free_count shape)
-      (stretch_count shape r) columns
-      (length-map-range_with_len (has_tier node.kind.opened) 0 (free_count shape))
-      (length-map-range_with_len (phase_at node.kind) 0 (stretch_count shape r)) l m
+  node_said r node l m = node_back _ _ (omega arith) (omega arith) _ _ _ (length-map-range_with_len _ 0 _)
+      (length-map-range_with_len _ 0 _) l m
 
   nodes_said : (r : ℕ) (nodes : List Node)
       → AllByRecursion (λ node. (node.kind.place ≤ columns) × (node.potential ≤ 1000000000)) nodes
@@ -79,9 +76,7 @@ module _ (shape : Shape) (columns : ℕ) (narrow : columns ≤ 64) where
   nodes_ascend : (r : ℕ) (nodes : List Node)
       → IsStrictlySortedBy kind_order (map (λ node. kind_in shape r node.kind) nodes)
       → Ascends node_less [] (map (node_value shape r) nodes)
-  nodes_ascend r nodes s =
-      ascends kind_order (λ (v : NodeValue). v.kind) (map (node_value shape r) nodes)
-      (subst (IsStrictlySortedBy kind_order)
+  nodes_ascend r nodes s = ascends _ _ _ (subst (IsStrictlySortedBy kind_order)
       (sym (map-map (λ (v : NodeValue). v.kind) (node_value shape r) nodes)) s)
 
   stages_free : (r : ℕ) (stages : List Stage) → AreStagesBack shape columns r stages
@@ -138,8 +133,7 @@ module _ (shape : Shape) (columns : ℕ) (narrow : columns ≤ 64) where
       → AreStagesBack shape columns r stages
   stages_are r [] h = tt
   stages_are r (stage ∷ stages) h = (
-    subst (λ k. IsStageBack shape columns k stage.nodes.items) (let e : r + 0 ≡ r = omega arith in e)
-        (h 0 (omega arith)),
+    rw (let e : r + 0 ≡ r = omega arith in e) at (h 0 (omega arith)),
     stages_are (r + 1) stages (λ i l. subst (λ k. IsStageBack shape columns k (nodes_at stages i))
         (let e : r + suc i ≡ r + 1 + i = omega arith in e) (h (suc i) (omega arith))),
   )
@@ -159,10 +153,8 @@ module _ (width nodes : ℕ) (few : nodes ≤ 65536) where
   states_are (state ∷ states) a b = (
     record {
       there = a.0.node;
-      arcs = arcs_are state.arcs.items (by_recursion (IsReadableArc width nodes) state.arcs.items a.0.arcs)
-          (by_recursion (λ arc. AllByRecursion (λ set. (1 ≤ set) × (set < 32)) (sets_of arc.class)) state.arcs.items
-          b.0.filled);
-      ascending = arcs_ascend state.arcs.items b.0.ascending;
+      arcs = arcs_are _ (by_recursion _ _ a.0.arcs) (by_recursion _ _ b.0.filled);
+      ascending = arcs_ascend _ b.0.ascending;
     },
     states_are states a.1 b.1,
   )
@@ -202,7 +194,7 @@ regroup A B a e z = append_assoc (A ++ a ∷ B) (e ∷ []) (z ∷ []) ∙ append
 timeline_back : (word : List ℕ) (width limit : ℕ) (T : List (List Sym)) → timeline.IsTextOf width limit (text_of T) T
     → timeline_said word width limit (word ++ text_of T) ≡ Ok T
 timeline_back word width limit T t = said_of word width limit (word ++ text_of T) (text_of T) (Some T)
-    (behind_front word (text_of T)) (sym (timeline_for width limit (text_of T) T t))
+    (behind_front word (text_of T)) (sym (timeline_for _ _ _ T t))
 
 module _ (shape : Shape) (answer : Answer) (is : IsOrderly shape answer) where
   abbrev stages : List Stage
@@ -215,7 +207,7 @@ module _ (shape : Shape) (answer : Answer) (is : IsOrderly shape answer) where
   node_count = length (last_nodes stages)
 
   counts : AreCounts answer.counts.items
-  counts = by_recursion (λ n. n ≤ 1000000000) answer.counts.items is.counts
+  counts = by_recursion _ _ is.counts
 
   one_each : length answer.counts.items ≡ constraint_count shape
   one_each = omega (arith, is.one_each)
@@ -239,13 +231,12 @@ module _ (shape : Shape) (answer : Answer) (is : IsOrderly shape answer) where
       }))
 
   readable_states : AllByRecursion (IsReadableState shape.width node_count) states
-  readable_states = by_recursion (IsReadableState shape.width node_count) states is.states.each
+  readable_states = by_recursion _ _ is.states.each
 
   few_states : length states ≤ node_count
   few_states =
-      let below = few_below 0 node_count (numbers_of states) is.states.ascending (omega arith)
-      (from_zero shape.width node_count few_nodes (numbers_of states))
-      (nodes_below shape.width node_count few_nodes states readable_states) in
+      let below = few_below 0 _ _ is.states.ascending (omega arith) (from_zero shape.width _ few_nodes _)
+      (nodes_below _ _ few_nodes _ readable_states) in
       let n = length-map states (λ (state : StateLine). state.node) in
       omega arith
 

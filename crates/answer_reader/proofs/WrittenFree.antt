@@ -14,7 +14,7 @@ abbrev pub IsFree : List ℕ → Type 0
 IsFree bytes = list_any is_newline bytes ≡ false
 
 pub both_free : (a b : List ℕ) → IsFree a → IsFree b → IsFree (a ++ b)
-both_free a b f g = list_any-append is_newline a b ∙ ap (λ t. t || list_any is_newline b) f ∙ g
+both_free a b f g = list_any-append _ a b ∙ ap (λ t. t || list_any is_newline b) f ∙ g
 
 pub decimal_free : (n : ℕ) → n < 2 ^ 64 → IsFree (decimal n)
 decimal_free n l = decimal_without 10 n refl l
@@ -53,12 +53,10 @@ phases_free (unmet ∷ phases) = phases_free phases
 phases_free (met ∷ phases) = phases_free phases
 
 kind_free : (k : PrefixKind) → k.place < 2 ^ 64 → IsFree (kind_text k)
-kind_free k l =
-    both_free (decimal k.place ++ codes "/" ++ map open_byte k.opened ++ codes "/") (map phase_byte k.phases)
-    (both_free (decimal k.place ++ codes "/" ++ map open_byte k.opened) (codes "/")
-    (both_free (decimal k.place ++ codes "/") (map open_byte k.opened)
-    (both_free (decimal k.place) (codes "/") (decimal_free k.place l) refl) (opens_free k.opened)) refl)
-    (phases_free k.phases)
+kind_free k l = both_free (decimal k.place ++ codes "/" ++ map open_byte k.opened ++ codes "/")
+    (map phase_byte k.phases) (both_free (decimal k.place ++ codes "/" ++ map open_byte k.opened) (codes "/")
+    (both_free (decimal k.place ++ codes "/") (map open_byte k.opened) (both_free (decimal k.place) (codes "/")
+    (decimal_free _ l) refl) (opens_free k.opened)) refl) (phases_free k.phases)
 
 pub node_free : (k : PrefixKind) (potential : ℕ) → k.place < 2 ^ 64 → potential < 2 ^ 64
     → IsFree (codes "node " ++ (kind_text k ++ after_space potential))
@@ -79,13 +77,13 @@ class_free (set ∷ sets) =
 pub arc_free : (target : ℕ) (sets : List ℕ) → target < 2 ^ 64
     → IsFree (codes "arc " ++ (decimal target ++ codes " " ++ class_text sets))
 arc_free target sets l = both_free (decimal target ++ codes " ") (class_text sets)
-    (both_free (decimal target) (codes " ") (decimal_free target l) refl) (class_free sets)
+    (both_free (decimal target) (codes " ") (decimal_free _ l) refl) (class_free sets)
 
 pub state_free : (node : ℕ) (accepting : Bool) → node < 2 ^ 64
     → IsFree (codes "state " ++ (decimal node ++ final_mark accepting))
-state_free node true l = both_free (decimal node) (final_mark true) (decimal_free node l) refl
-state_free node false l = both_free (decimal node) (final_mark false) (decimal_free node l) refl
+state_free node true l = both_free (decimal node) (final_mark true) (decimal_free _ l) refl
+state_free node false l = both_free (decimal node) (final_mark false) (decimal_free _ l) refl
 
 pub stage_free : (r count : ℕ) → r < 2 ^ 64 → count < 2 ^ 64
     → IsFree (codes "stage " ++ (decimal r ++ 32 ∷ decimal count))
-stage_free r count l m = both_free (decimal r) (32 ∷ decimal count) (decimal_free r l) (decimal_free count m)
+stage_free r count l m = both_free (decimal r) (32 ∷ decimal count) (decimal_free r l) (decimal_free _ m)

@@ -63,7 +63,7 @@ same_number n = grind (arith, nat_tests)
 
 each_of : (test : ℕ → Bool) (n : ℕ) (bytes : List ℕ) → length bytes ≡ n → list_all test bytes ≡ true
     → are_each test n bytes ≡ true
-each_of test n bytes l h = and_from (length bytes == n) (list_all test bytes) (ap (λ k. k == n) l ∙ same_number n) h
+each_of test n bytes l h = and_from _ _ (ap (λ k. k == n) l ∙ same_number n) h
 
 module _ (k : PrefixKind) (potential : ℕ) (small : k.place < 2 ^ 64) (less : potential < 2 ^ 64) where
   abbrev words : NodeWords
@@ -87,28 +87,22 @@ module _ (k : PrefixKind) (potential : ℕ) (small : k.place < 2 ^ 64) (less : p
       ap (λ o. option_and_then (λ kind. option_and_then
       (λ p. option_and_then (λ q. option_map (with_potential p.0 q.0) (cut 32 q.1)) (cut 47 p.1)) (cut 47 kind)) o)
       (behind_front (codes "node ") (kind_text k ++ after_space potential)
-      ∙ ap (λ (xs : List ℕ). let r : Option (List ℕ) = Some xs in r) line_is)
-      ∙ ap (λ o. option_and_then (λ p. option_and_then (λ q. option_map (with_potential p.0 q.0) (cut 32 q.1))
-      (cut 47 p.1)) o)
-      (cut_word 47 (decimal k.place)
-      (map open_byte k.opened ++ 47 ∷ (map phase_byte k.phases ++ 32 ∷ decimal potential)) refl
-      (decimal_without 47 k.place refl small))
-      ∙ ap (λ o. option_and_then (λ (q : List ℕ × List ℕ). option_map (with_potential (decimal k.place) q.0)
-      (cut 32 q.1)) o)
+      ∙ ap (λ (xs : List ℕ). let r = Some xs in r) line_is) ∙ ap
+      (λ o. option_and_then (λ p. option_and_then (λ q. option_map (with_potential p.0 q.0) (cut 32 q.1)) (cut 47 p.1))
+      o) (cut_word 47 (decimal k.place) (map open_byte k.opened ++ 47 ∷ (map phase_byte k.phases ++ 32 ∷ decimal
+      potential)) refl (decimal_without 47 _ refl small)) ∙ ap
+      (λ o. option_and_then (λ (q : List ℕ × List ℕ). option_map (with_potential (decimal k.place) q.0) (cut 32 q.1)) o)
       (cut_word 47 (map open_byte k.opened) (map phase_byte k.phases ++ 32 ∷ decimal potential) refl
-      (opens_without k.opened))
-      ∙ ap (λ o. option_map (with_potential (decimal k.place) (map open_byte k.opened)) o)
-      (cut_word 32 (map phase_byte k.phases) (decimal potential) refl (phases_without k.phases))
+      (opens_without k.opened)) ∙ ap (λ o. option_map (with_potential (decimal k.place) (map open_byte k.opened)) o)
+      (cut_word 32 _ _ refl (phases_without k.phases))
 
   words_pass : (free stretches : ℕ) → length k.opened ≡ free → length k.phases ≡ stretches
       → are_node_words free stretches words ≡ true
   words_pass free stretches f s =
-      let a = run_decimal k.place small in
-      let b = each_of is_open_byte free (map open_byte k.opened) (length-map k.opened open_byte ∙ f)
-      (opens_pass k.opened) in
-      let c = each_of is_phase_byte stretches (map phase_byte k.phases) (length-map k.phases phase_byte ∙ s)
-      (phases_pass k.phases) in
-      let d = run_decimal potential less in
+      let a = run_decimal _ small in
+      let b = each_of _ _ _ (length-map k.opened open_byte ∙ f) (opens_pass k.opened) in
+      let c = each_of _ _ _ (length-map k.phases phase_byte ∙ s) (phases_pass k.phases) in
+      let d = run_decimal _ less in
       ap (λ t. t && are_each is_open_byte free (map open_byte k.opened) && are_each is_phase_byte stretches
       (map phase_byte k.phases) && is_run (decimal potential)) a
       ∙ ap (λ t. t && are_each is_phase_byte stretches (map phase_byte k.phases) && is_run (decimal potential)) b
@@ -119,28 +113,26 @@ module _ (k : PrefixKind) (potential : ℕ) (small : k.place < 2 ^ 64) (less : p
       ap (λ xs. let r : NodeValue = record {
         kind = record { place = k.place; opened = xs; phases = map phase_of_byte (map phase_byte k.phases) };
         potential = potential;
-      } in r) (opens_told k.opened)
+      } in r) (opens_told _)
       ∙ ap (λ xs. let r : NodeValue = record
-      { kind = record { place = k.place; opened = k.opened; phases = xs }; potential = potential } in r)
-      (phases_told k.phases)
+      { kind = record { place = k.place; opened = k.opened; phases = xs }; potential = potential } in r) (phases_told _)
 
   numbers_back : (columns : ℕ) → k.place ≤ columns → potential ≤ 1000000000 → node_with columns words
       ≡ Some (node_by words k.place potential)
   numbers_back columns l m =
       ap (λ o. option_and_then (λ place. option_map (node_by words place)
-      (number_below 1000000001 (decimal potential))) o) (number_decimal (columns + 1) k.place (omega arith) small)
-      ∙ ap (option_map (node_by words k.place)) (number_decimal 1000000001 potential (omega arith) less)
+      (number_below 1000000001 (decimal potential))) o) (number_decimal _ _ (omega arith) small)
+      ∙ ap (option_map (node_by words k.place)) (number_decimal _ _ (omega arith) less)
 
   -- the line of a node
   pub node_back : (free stretches columns : ℕ) → length k.opened ≡ free → length k.phases ≡ stretches
       → k.place ≤ columns → potential ≤ 1000000000
       → node_of free stretches columns (codes "node " ++ (kind_text k ++ after_space potential))
       ≡ Ok (record { kind = k; potential = potential })
-  node_back free stretches columns f s l m =
-      ap (node_said free stretches columns) words_back
-      ∙ ap (λ t. cond t (ok_or (node_with columns words) BadNumber) (Err BadLine)) (words_pass free stretches f s)
-      ∙ ap (λ o. ok_or o BadNumber) (numbers_back columns l m)
-      ∙ ap (λ (x : NodeValue). let r : Result NodeValue AnswerCause = Ok x in r) node_is
+  node_back free stretches columns f s l m = ap (node_said free stretches columns) words_back
+      ∙ ap (λ t. cond t (ok_or (node_with columns words) BadNumber) (Err BadLine)) (words_pass _ _ f s)
+      ∙ ap (λ o. ok_or o BadNumber) (numbers_back _ l m)
+      ∙ ap (λ (x : NodeValue). let r = Ok x in r) node_is
 
 -- ---- classes
 
@@ -174,7 +166,7 @@ module _ (target nodes : ℕ) (sets : List ℕ) (there : target < nodes) (small 
         ≡ Some (decimal target, class_text sets)
     arc_words_back =
         ap (option_and_then (cut 32)) (behind_front (codes "arc ") (decimal target ++ 32 ∷ class_text sets))
-        ∙ cut_word 32 (decimal target) (class_text sets) refl (decimal_without 32 target refl small)
+        ∙ cut_word 32 _ _ refl (decimal_without 32 _ refl small)
 
     -- the line of an arc
     pub arc_back : (width : ℕ) → length sets ≡ width
@@ -195,16 +187,15 @@ not_cut_at : (b : ℕ) (word : List ℕ) → list_any (λ x. x == b) word ≡ fa
     ≡ length word
 not_cut_at b [] h = refl
 not_cut_at b (w ∷ word) h =
-    let p = or_parts (w == b) (list_any (λ x. x == b) word) h in
-    one_further (w == b) (position_or_len (λ x. x == b) word) (length word) p.0 (not_cut_at b word p.1)
+    let p = or_parts _ _ h in
+    one_further _ _ _ p.0 (not_cut_at b word p.1)
 
 not_found : (n : ℕ) → cond (nat_lt n n) (Some n) None ≡ None
 not_found n = grind (arith, nat_tests)
 
 no_cut : (b : ℕ) (word : List ℕ) → list_any (λ x. x == b) word ≡ false → cut b word ≡ None
-no_cut b word h =
-    ap (λ k. option_map (parts_at word) (cond (nat_lt k (length word)) (Some k) None)) (not_cut_at b word h)
-    ∙ ap (option_map (parts_at word)) (not_found (length word))
+no_cut b word h = ap (λ k. option_map (parts_at word) (cond (nat_lt k (length word)) (Some k) None)) (not_cut_at b _ h)
+    ∙ ap (option_map (parts_at word)) (not_found _)
 
 module _ (node nodes : ℕ) (there : node < nodes) (small : node < 2 ^ 64) where
   state_words_back : (accepting : Bool) → state_words (codes "state " ++ (decimal node ++ final_mark accepting))
@@ -212,50 +203,43 @@ module _ (node nodes : ℕ) (there : node < nodes) (small : node < 2 ^ 64) where
   state_words_back false =
       ap (option_and_then (λ rest. final_words rest (cut 32 rest))) (behind_front (codes "state ") (decimal node ++ []))
       ∙ ap (λ rest. final_words rest (cut 32 rest)) (append-nil (decimal node))
-      ∙ ap (final_words (decimal node)) (no_cut 32 (decimal node) (decimal_without 32 node refl small))
-  state_words_back true =
-      ap (option_and_then (λ rest. final_words rest (cut 32 rest)))
+      ∙ ap (final_words (decimal node)) (no_cut 32 (decimal node) (decimal_without 32 _ refl small))
+  state_words_back true = ap (option_and_then (λ rest. final_words rest (cut 32 rest)))
       (behind_front (codes "state ") (decimal node ++ codes " final"))
-      ∙ ap (final_words (decimal node ++ codes " final"))
-      (cut_word 32 (decimal node) (codes "final") refl (decimal_without 32 node refl small))
+      ∙ ap (final_words (decimal node ++ codes " final")) (cut_word 32 (decimal node) (codes "final") refl
+      (decimal_without 32 _ refl small))
 
   -- the line of a state
   pub state_back : (accepting : Bool) → state_of nodes (codes "state " ++ (decimal node ++ final_mark accepting))
       ≡ Ok (record { node = node; accepting = accepting; arcs = [] })
-  state_back accepting =
-      ap (state_said nodes) (state_words_back accepting)
+  state_back accepting = ap (state_said nodes) (state_words_back _)
       ∙ ap (λ t. cond t (ok_or (option_map (state_with (record { node = decimal node; accepting = accepting }))
-      (number_below nodes (decimal node))) BadNumber) (Err BadLine)) (run_decimal node small)
+      (number_below nodes (decimal node))) BadNumber) (Err BadLine)) (run_decimal _ small)
       ∙ ap (λ o. ok_or (option_map (state_with (record { node = decimal node; accepting = accepting })) o) BadNumber)
-      (number_decimal nodes node there small)
+      (number_decimal _ _ there small)
 
 -- ---- stages and the automaton
 
 -- the line of the automaton
 pub automaton_back : (nodes states : ℕ) → states ≤ nodes → states < 2 ^ 64
     → automaton_of nodes (codes "automaton " ++ decimal states) ≡ Ok states
-automaton_back nodes states l small =
-    ap (number_said (nodes + 1)) (behind_front (codes "automaton ") (decimal states))
-    ∙ ap (λ t. cond t (ok_or (number_below (nodes + 1) (decimal states)) BadNumber) (Err BadLine))
-    (run_decimal states small)
-    ∙ ap (λ o. ok_or o BadNumber) (number_decimal (nodes + 1) states (omega arith) small)
+automaton_back nodes states l small = ap (number_said (nodes + 1)) (behind_front (codes "automaton ") (decimal states))
+    ∙ ap (λ t. cond t (ok_or (number_below (nodes + 1) (decimal states)) BadNumber) (Err BadLine)) (run_decimal _ small)
+    ∙ ap (λ o. ok_or o BadNumber) (number_decimal _ _ (omega arith) small)
 
 -- the line of a stage
 pub stage_back : (stages next count : ℕ) → next < stages → stages ≤ 25 → count ≤ 65536
     → stage_of stages next (codes "stage " ++ (decimal next ++ 32 ∷ decimal count)) ≡ Ok count
 stage_back stages next count l few m =
-    let w : stage_words (codes "stage " ++ (decimal next ++ 32 ∷ decimal count)) ≡ Some (decimal next, decimal count) =
-    ap (option_and_then (cut 32)) (behind_front (codes "stage ") (decimal next ++ 32 ∷ decimal count))
-    ∙ cut_word 32 (decimal next) (decimal count) refl (decimal_without 32 next refl small_next) in
+    let w = ap (option_and_then (cut 32)) (behind_front (codes "stage ") (decimal next ++ 32 ∷ decimal count))
+    ∙ cut_word 32 (decimal next) (decimal count) refl (decimal_without 32 _ refl small_next) in
     ap (stage_said stages next) w
     ∙ ap (λ t. cond t (cond (is_number next (number_below stages (decimal next)))
     (ok_or (number_below 65537 (decimal count)) BadNumber) (Err BadNumber)) (Err BadLine))
-    (and_from (is_run (decimal next)) (is_run (decimal count)) (run_decimal next small_next)
-    (run_decimal count small_count))
+    (and_from _ _ (run_decimal _ small_next) (run_decimal _ small_count))
     ∙ ap (λ o. cond (is_number next o) (ok_or (number_below 65537 (decimal count)) BadNumber) (Err BadNumber))
-    (number_decimal stages next l small_next)
-    ∙ ap (λ t. cond t (ok_or (number_below 65537 (decimal count)) BadNumber) (Err BadNumber)) (same_number next)
-    ∙ ap (λ o. ok_or o BadNumber) (number_decimal 65537 count (omega arith) small_count)
+    (number_decimal _ _ l small_next) ∙ ap (λ t. cond t (ok_or (number_below 65537 (decimal count)) BadNumber)
+    (Err BadNumber)) (same_number _) ∙ ap (λ o. ok_or o BadNumber) (number_decimal _ _ (omega arith) small_count)
   where
     small_next : next < 2 ^ 64
     small_next = omega arith
@@ -268,7 +252,7 @@ stage_back stages next count l few m =
 whole_word : (p : ℕ → Bool) (word : List ℕ) → list_any p word ≡ false → slice_split p word ≡ word ∷ []
 whole_word p [] h = refl
 whole_word p (w ∷ word) h =
-    let q = or_parts (p w) (list_any p word) h in
+    let q = or_parts _ _ h in
     ap (λ t. cond t ([] ∷ slice_split p word) (onto_first w (slice_split p word))) q.0
     ∙ ap (onto_first w) (whole_word p word q.1)
 
@@ -282,35 +266,30 @@ large n l = omega arith
 words_of : (n : ℕ) (ns : List ℕ) → n ≤ 1000000000 → AreCounts ns → slice_split is_space (decimal n ++ spaced_numbers ns)
     ≡ decimal n ∷ map decimal ns
 words_of n [] l are = ap (slice_split is_space) (append-nil (decimal n))
-    ∙ whole_word is_space (decimal n) (decimal_without 32 n refl (large n l))
-words_of n (m ∷ ns) l are =
-    split_word is_space (decimal n) 32 (decimal m ++ spaced_numbers ns) refl (decimal_without 32 n refl (large n l))
-    ∙ ap (λ ws. decimal n ∷ ws) (words_of m ns are.0 are.1)
+    ∙ whole_word _ _ (decimal_without 32 n refl (large n l))
+words_of n (m ∷ ns) l are = split_word _ _ 32 _ refl (decimal_without 32 n refl (large n l)) ∙ ap (λ ws. decimal n ∷ ws)
+    (words_of m ns are.0 are.1)
 
 all_runs : (ns : List ℕ) → AreCounts ns → list_all is_run (map decimal ns) ≡ true
 all_runs [] are = refl
-all_runs (n ∷ ns) are = and_from (is_run (decimal n)) (list_all is_run (map decimal ns))
-    (run_decimal n (large n are.0)) (all_runs ns are.1)
+all_runs (n ∷ ns) are = and_from _ _ (run_decimal n (large n are.0)) (all_runs ns are.1)
 
 all_numbers : (ns : List ℕ) → AreCounts ns → numbers_below 1000000001 (map decimal ns) ≡ Some ns
 all_numbers [] are = refl
-all_numbers (n ∷ ns) are =
-    ap (λ o. option_and_then (λ m. option_map (λ ms. m ∷ ms) (numbers_below 1000000001 (map decimal ns))) o)
-    (number_decimal 1000000001 n (omega (arith, are.0)) (large n are.0))
-    ∙ ap (option_map (λ ms. n ∷ ms)) (all_numbers ns are.1)
+all_numbers (n ∷ ns) are = ap
+    (λ o. option_and_then (λ m. option_map (λ ms. m ∷ ms) (numbers_below 1000000001 (map decimal ns))) o)
+    (number_decimal _ n (omega (arith, are.0)) (large n are.0)) ∙ ap (option_map (λ ms. n ∷ ms)) (all_numbers ns are.1)
 
 counts_words_back : (ns : List ℕ) → AreCounts ns → counts_words (counts_line ns) ≡ Some (map decimal ns)
 counts_words_back [] are = refl
 counts_words_back (n ∷ ns) are = ap (option_map (slice_split is_space))
     (behind_front (codes "counts ") (decimal n ++ spaced_numbers ns))
-    ∙ ap (λ (ws : List (List ℕ)). let r : Option (List (List ℕ)) = Some ws in r) (words_of n ns are.0 are.1)
+    ∙ ap (λ (ws : List (List ℕ)). let r = Some ws in r) (words_of n ns are.0 are.1)
 
 -- the line of the counts
 pub counts_back : (constraints : ℕ) (ns : List ℕ) → length ns ≡ constraints → AreCounts ns
     → counts_of constraints (counts_line ns) ≡ Ok ns
-counts_back constraints ns l are =
-    ap (counts_said constraints) (counts_words_back ns are)
+counts_back constraints ns l are = ap (counts_said constraints) (counts_words_back ns are)
     ∙ ap (λ t. cond t (ok_or (numbers_below 1000000001 (map decimal ns)) BadNumber) (Err BadLine))
-    (and_from (length (map decimal ns) == constraints) (list_all is_run (map decimal ns))
-    (ap (λ k. k == constraints) (length-map ns decimal ∙ l) ∙ same_number constraints) (all_runs ns are))
+    (and_from _ _ (ap (λ k. k == constraints) (length-map ns decimal ∙ l) ∙ same_number _) (all_runs ns are))
     ∙ ap (λ o. ok_or o BadNumber) (all_numbers ns are)

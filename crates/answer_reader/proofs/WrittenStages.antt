@@ -86,15 +86,12 @@ module _ (shape : Shape) (columns : ℕ) (stages : List (List NodeValue)) where
       (λ ys. stages_from shape columns (behind_stages (stages ++ ys ∷ [])) n rest) (sym (append-nil done))
   nodes_back [] done (line ∷ lines) said asc rest l n = absurd said
   nodes_back (x ∷ xs) done [] said asc rest l n = absurd said
-  nodes_back (x ∷ xs) done (line ∷ lines) said asc rest l n =
-      node_next shape columns stages (length xs) done n (line ∷ (lines ++ rest))
-      ∙ line_on (next_node shape columns (length stages) done)
-      (λ node. stages_from shape columns (with_nodes stages (length xs) (done ++ node ∷ []))) n line
-      (lines ++ rest) x
-      (in_its_place node_less done x (node_here line) said.0 asc.0) (some_behind lines rest l)
-      ∙ nodes_back xs (done ++ x ∷ []) lines said.1 asc.1 rest l (n + 1)
-      ∙ ap (λ ys. stages_from shape columns (behind_stages (stages ++ ys ∷ [])) (after (n + 1) lines) rest)
-      (append_assoc done (x ∷ []) xs)
+  nodes_back (x ∷ xs) done (line ∷ lines) said asc rest l n = node_next shape columns stages (length xs) done n
+      (line ∷ (lines ++ rest)) ∙ line_on (next_node shape columns (length stages) done)
+      (λ node. stages_from shape columns (with_nodes stages (length xs) (done ++ node ∷ []))) n line (lines ++ rest) x
+      (in_its_place node_less done x (node_here line) said.0 asc.0) (some_behind lines rest l) ∙ nodes_back xs _ lines
+      said.1 asc.1 rest l _ ∙ ap (λ ys. stages_from shape columns (behind_stages (stages ++ ys ∷ []))
+      (after (n + 1) lines) rest) (append_assoc done (x ∷ []) xs)
 
   no_automaton : (ss : List (List NodeValue)) (word : List ℕ) → is_automaton ss (codes "stage " ++ word) ≡ false
   no_automaton [] word = refl
@@ -110,12 +107,11 @@ module _ (shape : Shape) (columns : ℕ) (stages : List (List NodeValue)) where
       → stages_from shape columns (behind_stages stages) n ((codes "stage " ++ word) ∷ rest)
       ≡ stages_from shape columns (with_nodes stages count []) (n + 1) rest
   stage_on word count n [] h l = absurd (omega arith)
-  stage_on word count n (next ∷ rest) h l =
-      ap (λ t. cond t (go_on (automaton_of (last_count stages) (codes "stage " ++ word)) n
+  stage_on word count n (next ∷ rest) h l = ap
+      (λ t. cond t (go_on (automaton_of (last_count stages) (codes "stage " ++ word)) n
       (stages_read stages (n + 1) (next ∷ rest)))
       (go_on (stage_of (length shape.phases.items) (length stages) (codes "stage " ++ word)) n
-      (λ nodes. stages_from shape columns (with_nodes stages nodes []) (n + 1) (next ∷ rest))))
-      (no_automaton stages word)
+      (λ nodes. stages_from shape columns (with_nodes stages nodes []) (n + 1) (next ∷ rest)))) (no_automaton _ word)
       ∙ ap (λ s. go_on s n (λ nodes. stages_from shape columns (with_nodes stages nodes []) (n + 1) (next ∷ rest))) h
 
   -- the automaton behind the stages
@@ -140,4 +136,4 @@ module _ (shape : Shape) (columns : ℕ) (stages : List (List NodeValue)) where
       ≡ stages_from shape columns (behind_stages (stages ++ xs ∷ [])) (after n ((codes "stage " ++ word) ∷ lines))
       rest
   whole_stage xs word lines h said asc rest l n = stage_on word (length xs) n (lines ++ rest) h
-      (some_behind lines rest l) ∙ nodes_back xs [] lines said asc rest l (n + 1)
+      (some_behind _ _ l) ∙ nodes_back xs [] _ said asc _ l _

@@ -54,13 +54,12 @@ module _ (width nodes : ℕ) (few : nodes ≤ 65536) where
         → begins (codes "arc ") line ≡ true → arc_of width nodes line ≡ Ok x → follows arc_less done x ≡ true
         → 0 < length rest → from_here done n (line ∷ rest) ≡ from_here (done ++ x ∷ []) (n + 1) rest
     arc_on done x line [] n b h f l = absurd (omega arith)
-    arc_on done x line (next ∷ rest) n b h f l =
-        ap (λ t. cond t (go_on (next_arc width nodes done line) n
-        (λ arc. from_here (done ++ arc ∷ []) (n + 1) (next ∷ rest)))
-        (state_or_end nodes more (states ++ with_arcs st done ∷ []) n line (next ∷ rest)
-        (λ place. states_from width nodes place (n + 1) (next ∷ rest)))) b
-        ∙ ap (λ s. go_on s n (λ arc. from_here (done ++ arc ∷ []) (n + 1) (next ∷ rest)))
-        (in_its_place arc_less done x (arc_of width nodes line) h f)
+    arc_on done x line (next ∷ rest) n b h f l = ap
+        (λ t. cond t (go_on (next_arc width nodes done line) n (λ arc. from_here (done ++ arc ∷ []) (n + 1)
+        (next ∷ rest))) (state_or_end nodes more (states ++ with_arcs st done ∷ []) n line (next ∷ rest)
+        (λ place. states_from width nodes place (n + 1) (next ∷ rest)))) b ∙ ap
+        (λ s. go_on s n (λ arc. from_here (done ++ arc ∷ []) (n + 1) (next ∷ rest))) (in_its_place arc_less done x _ h
+        f)
 
     pub arcs_back : (arcs : List ArcLine) (done : List ArcValue) → AllByRecursion (IsArcBack width nodes) arcs
         → Ascends arc_less done (map arc_value arcs) → (rest : List (List ℕ)) → 0 < length rest → (n : ℕ)
@@ -102,9 +101,7 @@ module _ (width nodes : ℕ) (few : nodes ≤ 65536) where
       → from_here more done st arcs n (lines_from states)
       ≡ states_from width nodes (behind_states more (done ++ with_arcs st arcs ∷ [])) n (lines_from states)
   no_arc more done st arcs [] n = arcs_off more done st arcs (codes "end") ([] ∷ []) n refl (omega arith)
-  no_arc more done st arcs (state ∷ states) n =
-      arcs_off more done st arcs (codes "state " ++ (decimal state.node ++ final_mark state.accepting))
-      ((map arc_line state.arcs.items ++ flat_map state_lines states) ++ the_end) n refl
+  no_arc more done st arcs (state ∷ states) n = arcs_off _ _ st _ _ _ n refl
       (some_behind (map arc_line state.arcs.items ++ flat_map state_lines states) the_end (omega arith))
 
   pub states_back : (states : List StateLine) (done : List StateValue) → AllByRecursion IsStateBack states
@@ -151,7 +148,7 @@ sorted_map {X = X} cmp f (x ∷ xs) s = (each xs s.0, sorted_map cmp f xs s.1)
 
 pub arcs_ascend : (arcs : List ArcLine) → IsStrictlySortedBy arc_cmp arcs → Ascends arc_less [] (map arc_value arcs)
 arcs_ascend arcs s = ascends arc_order (λ (a : ArcValue). a) (map arc_value arcs)
-    (sorted_map arc_order (λ (a : ArcValue). a) (map arc_value arcs) (sorted_map arc_order arc_value arcs s))
+    (sorted_map _ _ _ (sorted_map _ _ _ s))
 
 less_told : (m n : ℕ) → is_lt (nat_cmp m n) ≡ nat_lt m n
 less_told m n = grind (arith, nat_tests)
@@ -166,15 +163,13 @@ ascends_same : {X : Type 0} (less other : X → X → Bool) → ((a b : X) → l
     → Ascends less done xs → Ascends other done xs
 ascends_same less other e done [] a = tt
 ascends_same less other e done (x ∷ xs) a =
-    (sym (follows_same less other e done x) ∙ a.0, ascends_same less other e (done ++ x ∷ []) xs a.1)
+    (sym (follows_same less other e done x) ∙ a.0, ascends_same less other e _ xs a.1)
 
 pub states_ascend : (states : List StateLine) → IsStrictlySortedBy nat_cmp (numbers_of states)
     → Ascends state_less [] (map state_value states)
-states_ascend states s =
-    ascends_same (λ a b. is_lt (nat_cmp a.node b.node)) state_less (λ a b. less_told a.node b.node) []
-    (map state_value states)
-    (ascends nat_cmp (λ (v : StateValue). v.node) (map state_value states)
-    (subst (IsStrictlySortedBy nat_cmp) (sym (map-map (λ (v : StateValue). v.node) state_value states)) s))
+states_ascend states s = ascends_same _ _ (λ a b. less_told _ _) [] _
+    (ascends _ _ _ (subst (IsStrictlySortedBy nat_cmp) (sym (map-map (λ (v : StateValue). v.node) state_value states))
+    s))
 
 -- ---- no more states than nodes
 
@@ -190,5 +185,5 @@ few_below a b [] s l h k = omega arith
 few_below a b (n ∷ ns) s l h k =
     let one = h.0 in
     let two = k.0 in
-    let rest = few_below (suc a) b ns s.1 (omega arith) (above a n ns one s.0) k.1 in
+    let rest = few_below _ b ns s.1 (omega arith) (above a n ns one s.0) k.1 in
     omega arith

@@ -13,21 +13,20 @@ use Rattle.answer_reader.proofs.Sets.{begins_front, drop_front, take_front}
 pub behind_front : (front rest : List ℕ) → behind front (front ++ rest) ≡ Some rest
 behind_front front rest =
     ap (λ t. cond t (Some (drop (length front) (front ++ rest))) None) (begins_front front rest)
-    ∙ ap (λ (xs : List ℕ). let r : Option (List ℕ) = Some xs in r) (drop_front front rest)
+    ∙ ap (λ (xs : List ℕ). let r = Some xs in r) (drop_front front rest)
 
 -- ---- words
 
 pub one_further : (t : Bool) (m n : ℕ) → t ≡ false → m ≡ n → cond (not t) (1 + m) 0 ≡ suc n
-one_further true m n h e = absurd (let bad : true ≡ false = h in cc)
+one_further true m n h e = absurd (let bad = h in cc)
 one_further false m n h e = omega arith
 
 place_of : (b : ℕ) (word rest : List ℕ) → list_any (λ x. x == b) word ≡ false → (b == b) ≡ true
     → position_or_len (λ x. x == b) (word ++ b ∷ rest) ≡ length word
 place_of b [] rest h e = ap (λ t. cond (not t) (1 + position_or_len (λ x. x == b) rest) 0) e
 place_of b (w ∷ word) rest h e =
-    let p = or_parts (w == b) (list_any (λ x. x == b) word) h in
-    one_further (w == b) (position_or_len (λ x. x == b) (word ++ b ∷ rest)) (length word) p.0
-    (place_of b word rest p.1 e)
+    let p = or_parts _ _ h in
+    one_further _ _ _ p.0 (place_of b word rest p.1 e)
 
 within : (word rest : List ℕ) (b : ℕ) → length word < length (word ++ b ∷ rest)
 within [] rest b = omega arith
@@ -42,18 +41,16 @@ after_suc (w ∷ word) rest b = after_suc word rest b
 
 after : (word rest : List ℕ) (b : ℕ) → drop (length word + 1) (word ++ b ∷ rest) ≡ rest
 after word rest b = let e : length word + 1 ≡ suc (length word) = omega arith in ap (λ k. drop k (word ++ b ∷ rest)) e
-    ∙ after_suc word rest b
+    ∙ after_suc word _ b
 
 pub cut_word : (b : ℕ) (word rest : List ℕ) → (b == b) ≡ true → list_any (λ x. x == b) word ≡ false
     → cut b (word ++ b ∷ rest) ≡ Some (word, rest)
-cut_word b word rest e h =
-    ap (λ k. option_map (parts_at (word ++ b ∷ rest)) (cond (nat_lt k (length (word ++ b ∷ rest))) (Some k) None))
-    (place_of b word rest h e)
-    ∙ ap (option_map (parts_at (word ++ b ∷ rest)))
-    (found (length word) (length (word ++ b ∷ rest)) (within word rest b))
-    ∙ ap (λ (xs : List ℕ). let r : Option (List ℕ × List ℕ) = Some (xs, drop (length word + 1) (word ++ b ∷ rest)) in
-    r) (take_front word (b ∷ rest))
-    ∙ ap (λ (xs : List ℕ). let r : Option (List ℕ × List ℕ) = Some (word, xs) in r) (after word rest b)
+cut_word b word rest e h = ap (λ k. option_map (parts_at (word ++ b ∷ rest))
+    (cond (nat_lt k (length (word ++ b ∷ rest))) (Some k) None)) (place_of b _ _ h e) ∙ ap
+    (option_map (parts_at (word ++ b ∷ rest))) (found _ _ (within _ _ b))
+    ∙ ap (λ (xs : List ℕ). let r = Some (xs, drop (length word + 1) (word ++ b ∷ rest)) in
+    r) (take_front _ _)
+    ∙ ap (λ (xs : List ℕ). let r = Some (word, xs) in r) (after word rest b)
 
 -- ---- lines
 
@@ -62,7 +59,7 @@ pub split_word : (p : ℕ → Bool) (word : List ℕ) (b : ℕ) (rest : List ℕ
     → slice_split p (word ++ b ∷ rest) ≡ word ∷ slice_split p rest
 split_word p [] b rest e h = ap (λ t. cond t ([] ∷ slice_split p rest) (onto_first b (slice_split p rest))) e
 split_word p (w ∷ word) b rest e h =
-    let q = or_parts (p w) (list_any p word) h in
+    let q = or_parts _ _ h in
     ap (λ t. cond t ([] ∷ slice_split p (word ++ b ∷ rest)) (onto_first w (slice_split p (word ++ b ∷ rest)))) q.0
     ∙ ap (onto_first w) (split_word p word b rest e q.1)
 
@@ -73,9 +70,8 @@ AreLines (bytes ∷ lines) = (list_any is_newline bytes ≡ false) × AreLines l
 
 pub lines_back : (lines : List (List ℕ)) → AreLines lines → lines_of (lines_text lines) ≡ lines ++ [] ∷ []
 lines_back [] are = refl
-lines_back (bytes ∷ lines) are =
-    ap lines_of (append_assoc bytes (10 ∷ []) (lines_text lines))
-    ∙ split_word is_newline bytes 10 (lines_text lines) refl are.0 ∙ ap (λ ls. bytes ∷ ls) (lines_back lines are.1)
+lines_back (bytes ∷ lines) are = ap lines_of (append_assoc bytes (10 ∷ []) (lines_text lines)) ∙ split_word _ _ 10 _
+    refl are.0 ∙ ap (λ ls. bytes ∷ ls) (lines_back lines are.1)
 
 pub both_lines : (xs ys : List (List ℕ)) → AreLines xs → AreLines ys → AreLines (xs ++ ys)
 both_lines [] ys a b = b

@@ -5,7 +5,5 @@ use Rattle.answer_reader.specs.Numbers.{is_run}
 use Rattle.answer_reader.proofs.counts.are_runs.Goals as goal
 
 pub returns : goal.returns
-returns c = all_from_yields_List is_run _ _ _ c.all.ensures.ran
-    (YieldsList-from_slice_split _ is_space c.args.text.now c.split.ensures.rest c.split.ensures.done
-    c.split.ensures.closure (λ x b q k. search (rules, tests)))
-    (λ x b q k. search (rules, tests))
+returns c = all_from_yields_List _ _ _ _ c.all.ensures.ran (YieldsList-from_slice_split _ _ _ c.split.ensures.rest
+    c.split.ensures.done c.split.ensures.closure (λ x b q k. search (rules, tests))) (λ x b q k. search (rules, tests))

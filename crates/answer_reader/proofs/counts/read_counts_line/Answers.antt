@@ -9,5 +9,4 @@ returns-clause-takes c =
     c.in_ok-said.ensures.ok c.on_line.ensures
 
 pub returns-clause-one_each : goal.returns-clause-one_each
-returns-clause-one_each c = one_each c.args.constraints c.in_ok-line.line.now c.in_ok-said.said c.on_line.result
-    (At c.args.lines.now.number) c.in_ok-said.ensures.ok c.on_line.ensures
+returns-clause-one_each c = one_each _ c.in_ok-line.line.now _ _ _ c.in_ok-said.ensures.ok c.on_line.ensures

@@ -4,6 +4,5 @@ use Rattle.timeline_text.specs.Bytes.{is_space}
 use Rattle.answer_reader.proofs.counts.word_count.Goals as goal
 
 pub returns : goal.returns
-returns c = count_from_yields_List c.split.result _ c.count.ensures.ran
-    (YieldsList-from_slice_split _ is_space c.args.text.now c.split.ensures.rest c.split.ensures.done
-    c.split.ensures.closure (λ x b q k. search (rules, tests)))
+returns c = count_from_yields_List _ _ c.count.ensures.ran (YieldsList-from_slice_split _ _ _ c.split.ensures.rest
+    c.split.ensures.done c.split.ensures.closure (λ x b q k. search (rules, tests)))

@@ -5,7 +5,6 @@ use Rattle.answer_reader.proofs.line_forms.arc_of.Goals as goal
 
 pub returns-in-Some-class_of-clause-within : goal.returns-in-Some-class_of-clause-within
 returns-in-Some-class_of-clause-within c = record {
-  wide = class_width c.args.width c.in-Some.text.now (sets_of c.in-Some-class_of.class)
-      (sym c.class_of.ensures ∙ ap (option_map sets_of) c.in-Some-class_of.is);
+  wide = class_width _ _ _ (sym c.class_of.ensures ∙ ap (option_map sets_of) c.in-Some-class_of.is);
   target = c.in-Some-number_below.ensures.below;
 }

@@ -10,9 +10,8 @@ overflow_mul-bit c =
 
 pub loop-byte-preserved : goal.loop-byte-preserved
 loop-byte-preserved c = record {
-  small = bit_more c.loop-byte.bit c.loop-byte.byte-index c.loop-byte.invariant.small;
-  below = bit_below c.loop-byte.mask c.loop-byte.bit _ c.bit_of-mask.result c.bit_of-mask.ensures
-      c.loop-byte.invariant.below;
-  rest = sym (mask_next c.args.mark c.loop-byte.mask c.loop-byte.bit c.loop-byte.byte-index c.bit_of-mask.result
+  small = bit_more _ _ c.loop-byte.invariant.small;
+  below = bit_below _ _ _ _ c.bit_of-mask.ensures c.loop-byte.invariant.below;
+  rest = sym (mask_next _ _ _ _ _
       c.args.bytes.now _ (omega arith) refl c.bit_of-mask.ensures) ∙ c.loop-byte.invariant.rest;
 }

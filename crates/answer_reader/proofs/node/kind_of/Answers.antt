@@ -13,13 +13,10 @@ invariant_of-result c = record {
 }
 
 pub returns-clause-opened : goal.returns-clause-opened
-returns-clause-opened c = ap (open_tiers (length c.args.open_text.now)) c.mask_of.ensures.mask
-    ∙ mask_told 43 c.args.open_text.now
+returns-clause-opened c = ap (open_tiers (length c.args.open_text.now)) c.mask_of.ensures.mask ∙ mask_told 43 _
 
 pub returns-clause-phases : goal.returns-clause-phases
-returns-clause-phases c =
-    ap (λ u. map (λ i. phase_by_bits (has_tier u i) (has_tier c.mask_of-3.result i))
-    (range_with_len 0 (length c.args.phase_text.now))) c.mask_of-2.ensures.mask
-    ∙ ap (λ m. map (λ i. phase_by_bits (has_tier (mark_mask 117 c.args.phase_text.now) i) (has_tier m i))
-    (range_with_len 0 (length c.args.phase_text.now))) c.mask_of-3.ensures.mask
-    ∙ phases_told c.args.phase_text.now
+returns-clause-phases c = ap (λ u. map (λ i. phase_by_bits (has_tier u i) (has_tier c.mask_of-3.result i))
+    (range_with_len 0 (length c.args.phase_text.now))) c.mask_of-2.ensures.mask ∙ ap
+    (λ m. map (λ i. phase_by_bits (has_tier (mark_mask 117 c.args.phase_text.now) i) (has_tier m i))
+    (range_with_len 0 (length c.args.phase_text.now))) c.mask_of-3.ensures.mask ∙ phases_told _

@@ -8,6 +8,5 @@ use Rattle.answer_reader.proofs.order.node_follows.Goals as goal
 pub returns-in-Some : goal.returns-in-Some
 returns-in-Some c =
     let it = rw c.in-Some.is at c.last.ensures.item in
-    let f = follows_seen (node_value c.args.shape.now c.args.stage) node_less c.args.nodes.now
-    (node_value c.args.shape.now c.args.stage c.args.node.now) c.in-Some.last.now it.3.0 it.1 in
-    c.eq.ensures ∙ less_told c.kind_cmp.result ∙ ap is_lt c.kind_cmp.ensures ∙ sym f
+    let f = follows_seen _ _ _ _ _ it.3.0 it.1 in
+    c.eq.ensures ∙ less_told _ ∙ ap is_lt c.kind_cmp.ensures ∙ sym f

@@ -7,4 +7,4 @@ use Rattle.answer_reader.proofs.order.state_follows.Goals as goal
 pub returns-in-Some : goal.returns-in-Some
 returns-in-Some c =
     let it = rw c.in-Some.is at c.last.ensures.item in
-    sym (follows_seen state_value state_less c.args.states.now _ c.in-Some.last.now it.3.0 it.1)
+    sym (follows_seen _ _ _ _ _ it.3.0 it.1)

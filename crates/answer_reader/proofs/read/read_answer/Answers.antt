@@ -18,11 +18,8 @@ returns-in_err-states-clause-err c =
 
 pub returns-clause-ok : goal.returns-clause-ok
 returns-clause-ok c =
-    let n : c.last_count-nodes.result
-    ≡ length (last_nodes c.in_ok-found.found.stages.items) = c.last_count-nodes.ensures.nodes
-    ∙ ap (λ stages. length (last_nodes stages)) c.deref.ensures.value in
+    let n = c.last_count-nodes.ensures.nodes ∙ ap (λ stages. length (last_nodes stages)) c.deref.ensures.value in
     whole_read c.args.shape.now c.args.bytes.now c.of_text-lines.result c.read_head.new.lines c.read_stages.new.lines
-    (head_seen c.in_ok-head.head) c.in_ok-found.found.stages.items
-    c.in_ok-found.found.states c.of_text-lines.ensures.lines c.of_text-lines.ensures.number
-    c.in_ok-head.ensures.goes_on (rw c.len.ensures at c.in_ok-found.ensures.goes_on) c.in_ok-states.states.items
+    (head_seen c.in_ok-head.head) c.in_ok-found.found.stages.items _ c.of_text-lines.ensures.lines
+    c.of_text-lines.ensures.number c.in_ok-head.ensures.goes_on (rw c.len.ensures at c.in_ok-found.ensures.goes_on) _
     (rw n at c.in_ok-states.ensures.goes_on)

@@ -5,7 +5,7 @@ use Rattle.answer_reader.proofs.StateLoops.{arcs_start, arc_read, arc_refused, a
 use Rattle.answer_reader.proofs.state_loop.read_arcs.Goals as goal
 
 pub reading-init : goal.reading-init
-reading-init c = arcs_start c.args.width c.args.nodes c.args.lines.now c.new-arcs.result.items c.new-arcs.ensures.items
+reading-init c = arcs_start _ _ _ _ c.new-arcs.ensures.items
 
 pub returns-in_err-arc-clause-goes_on : goal.returns-in_err-arc-clause-goes_on
 returns-in_err-arc-clause-goes_on c = λ more states state.
@@ -21,6 +21,5 @@ reading-preserved c = arc_read c.args.width c.args.nodes c.args.lines.now c.read
     c.in_ok-arc.ensures.within c.in_ok-push.ensures.items
 
 pub returns-clause-goes_on : goal.returns-clause-goes_on
-returns-clause-goes_on c = λ more states state.
-    arcs_read c.args.width c.args.nodes c.args.lines.now c.reading.lines c.reading.arcs.items c.reading.invariant
-    (sym c.begins.ensures ∙ c.reading-test.false) more states state
+returns-clause-goes_on c = λ more states state. arcs_read _ _ _ _ _ c.reading.invariant
+    (sym c.begins.ensures ∙ c.reading-test.false) _ _ _

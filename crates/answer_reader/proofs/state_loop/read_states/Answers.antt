@@ -6,8 +6,7 @@ use Rattle.answer_reader.proofs.StateLoops.{AreStates, states_start, one_read, o
 use Rattle.answer_reader.proofs.state_loop.read_states.Goals as goal
 
 pub loop-init : goal.loop-init
-loop-init c = states_start c.args.width c.args.nodes c.args.count (c.args.count - 0) c.args.lines.now
-    c.new-states.result.items (omega arith) c.new-states.ensures.items
+loop-init c = states_start _ _ _ _ _ _ (omega arith) c.new-states.ensures.items
 
 pub returns-in_err-state-clause-goes_on : goal.returns-in_err-state-clause-goes_on
 returns-in_err-state-clause-goes_on c =
@@ -18,12 +17,7 @@ returns-in_err-state-clause-goes_on c =
     (rw c.deref.ensures.value at (c.in_err-state.ensures.goes_on (c.args.count - (c.loop.counter + 1)))))
 
 pub loop-preserved : goal.loop-preserved
-loop-preserved c =
-    subst (AreStates c.args.width c.args.nodes c.args.count c.args.lines.now c.read_state.new.lines
-    (c.args.count - (c.loop.counter + 1))) (sym c.in_ok-push.ensures.items)
-    (one_read c.args.width c.args.nodes c.args.count (c.args.count - c.loop.counter)
-    (c.args.count - (c.loop.counter + 1)) c.args.lines.now c.loop.lines c.read_state.new.lines c.loop.states.items
-    c.in_ok-state.state (omega arith) c.loop.invariant
+loop-preserved c = rw c.in_ok-push.ensures.items (one_read _ _ _ _ _ _ _ _ _ _ (omega arith) c.loop.invariant
     (rw c.deref.ensures.value at (c.in_ok-state.ensures.goes_on (c.args.count - (c.loop.counter + 1))))
     (rw c.deref.ensures.value at c.in_ok-state.ensures.follows) c.in_ok-state.ensures.readable)
 
@@ -38,7 +32,5 @@ returns-in_err-read_end-clause-goes_on c =
     (c.in_err-read_end.ensures c.args.width c.args.nodes (map state_value c.loop.states.items)))
 
 pub returns-clause-goes_on : goal.returns-clause-goes_on
-returns-clause-goes_on c =
-    none_left c.args.width c.args.nodes c.args.count (c.args.count - c.loop.counter) c.args.lines.now c.loop.lines
-    c.loop.states.items (omega arith) c.loop.invariant
-    ∙ c.in_ok-read_end.ensures c.args.width c.args.nodes (map state_value c.loop.states.items)
+returns-clause-goes_on c = none_left _ _ _ _ _ _ _ (omega arith) c.loop.invariant ∙ c.in_ok-read_end.ensures
+    c.args.width c.args.nodes (map state_value c.loop.states.items)

@@ -12,5 +12,5 @@ invariant_of-result c = record {
   within = lit< tt;
   some_stage = omega (arith, c.in_ok-phases.ensures.len);
   few_stages = omega (arith, c.in_ok-phases.ensures.len);
-  rising = subst NeverFalls (sym c.in_ok-phases.ensures.items) c.requires.rising;
+  rising = rw c.in_ok-phases.ensures.items c.requires.rising;
 }

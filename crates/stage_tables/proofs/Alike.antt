@@ -30,34 +30,33 @@ module _ {W V : Type 0} {g : Ghosts W} {h : Ghosts V} (old : List (TableState W 
     (alike : AreAlike old new) where
   forth : (s : ℕ) (a : TableArc W g) → Contains (moves_at old s) a
       → (b : TableArc V h) × Contains (moves_at new s) b × IsAlike a b
-  forth s a here = zip_to IsAlike (moves_at old s) (moves_at new s)
-      (alike.moves s (moves_exist old s a here)) here.0 a here.1 here.2
+  forth s a here = zip_to _ _ _ (alike.moves s (moves_exist _ s a here)) _ a here.1 here.2
 
   back : (s : ℕ) (b : TableArc V h) → Contains (moves_at new s) b
       → (a : TableArc W g) × Contains (moves_at old s) a × IsAlike a b
-  back s b here = zip_from IsAlike (moves_at old s) (moves_at new s)
-      (alike.moves s (omega (arith, moves_exist new s b here, alike.each_state))) here.0 b here.1 here.2
+  back s b here = zip_from _ _ _
+      (alike.moves s (omega (arith, moves_exist new s b here, alike.each_state))) _ b here.1 here.2
 
   reads_new : (a : TableArc W g) (b : TableArc V h) (column : List Sym) → IsAlike a b → IsTrue (has a.class column)
       → IsTrue (has b.class column)
-  reads_new a b column same reads = subst (λ (c : Class). IsTrue (has c column)) (sym same.same_class) reads
+  reads_new a b column same reads = rw same.same_class reads
 
   reads_old : (a : TableArc W g) (b : TableArc V h) (column : List Sym) → IsAlike a b → IsTrue (has b.class column)
       → IsTrue (has a.class column)
-  reads_old a b column same reads = subst (λ (c : Class). IsTrue (has c column)) same.same_class reads
+  reads_old a b column same reads = rw same.same_class at reads
 
   pub alike_goes : GoesWith old new
   alike_goes = record {
-    ends = λ s run. alike.ends s (run_exists old s [] run) ∙ run;
+    ends = λ s run. alike.ends s (run_exists _ s [] run) ∙ run;
     moves = λ s a column here reads.
-        (let b = forth s a here in (b.0, b.1, reads_new a b.0 column b.2 reads, b.2.same_target));
+        (let b = forth s a here in (b.0, b.1, reads_new a _ _ b.2 reads, b.2.same_target));
   }
 
   -- each state that is on a run stays on one
   pub alike_on_runs : ClassesFilled old → ((s : ℕ) → s < length old → IsOnRun old s)
       → (s : ℕ) → s < length new → IsOnRun new s
   alike_on_runs filled on_runs s l =
-      on_runs_with old new alike_goes filled s (on_runs s (omega (arith, l, alike.each_state)))
+      on_runs_with _ _ alike_goes filled s (on_runs s (omega (arith, l, alike.each_state)))
 
   pub alike_targets : TargetsExist old → TargetsExist new
   alike_targets exist s b here =
@@ -67,7 +66,7 @@ module _ {W V : Type 0} {g : Ghosts W} {h : Ghosts V} (old : List (TableState W 
   pub alike_filled : ClassesFilled old → ClassesFilled new
   alike_filled filled s b here =
       let a = back s b here in
-      subst (λ (c : Class). IsTrue (is_filled c)) (sym a.2.same_class) (filled s a.0 a.1)
+      rw a.2.same_class (filled s a.0 a.1)
 
   pub alike_width : OneWidth old → OneWidth new
   alike_width one s t b d here there =
@@ -101,7 +100,7 @@ module _ {W V : Type 0} {g : Ghosts W} {h : Ghosts V} (old : List (TableState W 
         ∙ named.ends s inside);
     moves = λ s b column here reads.
         (let a = back s b here in
-        let goes = named.moves s a.0 column a.1 (reads_old a.0 b column a.2 reads) in
+        let goes = named.moves s a.0 column a.1 (reads_old _ b _ a.2 reads) in
         record { fits = goes.fits; leads = ap (name_of names) a.2.same_target ∙ goes.leads });
     targets = alike_targets named.targets;
     filled = alike_filled named.filled;
@@ -114,7 +113,7 @@ pub alike_turned : {W V : Type 0} {g : Ghosts W} {h : Ghosts V} (old : List (Tab
 alike_turned old new alike = record {
   each_state = sym alike.each_state;
   ends = λ k l. sym (alike.ends k (omega (arith, l, alike.each_state)));
-  moves = λ k l. turned (moves_at old k) (moves_at new k) (alike.moves k (omega (arith, l, alike.each_state)));
+  moves = λ k l. turned _ _ (alike.moves k (omega (arith, l, alike.each_state)));
 }
   where
     turned : {W V : Type 0} {g : Ghosts W} {h : Ghosts V} (xs : List (TableArc W g)) (ys : List (TableArc V h))
@@ -131,6 +130,6 @@ pub alike_words : {W V : Type 0} {g : Ghosts W} {h : Ghosts V} (old : List (Tabl
     (new : List (TableState V h))
     → AreAlike old new → (T : List (List Sym)) → Accepts new T ↔ Accepts old T
 alike_words old new alike T = (
-  words_with new old (alike_goes new old (alike_turned old new alike)) T,
-  words_with old new (alike_goes old new alike) T,
+  words_with _ _ (alike_goes _ _ (alike_turned _ _ alike)) T,
+  words_with _ _ (alike_goes _ _ alike) T,
 )

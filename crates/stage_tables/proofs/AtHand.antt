@@ -82,8 +82,7 @@ module _ {g : Ghosts UnitWeight} (exploring : Exploring) (next : exploring.befor
 
       costed : (column : List Sym) → IsTrue (has made.class column)
           → cost_under exploring.frame.now exploring.stage exploring.stage kind column ≡ cost
-      costed column h = are.costs column (goes column (held_by column h)).column_fits.width
-          ∙ costs column (held_by column h)
+      costed column h = are.costs column (goes _ (held_by _ h)).column_fits.width ∙ costs column (held_by _ h)
 
 -- it is put behind others
 pub taken_alone : {g : Ghosts UnitWeight} {h : Ghosts Count} (exploring : Exploring) (listed : Listed) (kind : Kind)

@@ -12,8 +12,7 @@ use Rattle.stage_tables.specs.Listed.{AreTaken}
 use Rattle.stage_tables.proofs.Listing.{at_cases}
 
 pub none_apart : (entries : List (Kind × ℕ)) → entries ≡ [] → AreApart entries
-none_apart entries none = subst (λ (xs : List (Kind × ℕ)). AreApart xs) (sym none)
-    (λ i j x l m. absurd (omega (arith, m)))
+none_apart entries none = rw none (λ i j x l m. absurd (omega (arith, m)))
 
 -- what is put last where there is none stands alone
 pub put_alone : (none entries : List (Kind × ℕ)) (first : Kind) (s : ℕ) → none ≡ []
@@ -25,9 +24,9 @@ pub numbered_alone : (none entries : List (Kind × ℕ)) (k : ℕ) (first : Kind
 numbered_alone none entries k first s empty n = elim n.grows [
   | inl same ↦
       (let l = slice_get_within entries k (first, s) n.at in
-      let long : length entries ≡ 0 = ap (λ xs. length xs) (same ∙ empty) in
+      let long = ap (λ xs. length xs) (same ∙ empty) in
       absurd (omega arith))
-  | inr put ↦ put_alone none entries first s empty put.0
+  | inr put ↦ put_alone _ _ _ s empty put.0
 ]
 
 -- the start alone is found
@@ -39,17 +38,15 @@ module _ {g : Ghosts UnitWeight} (frame : Frame) (stage : ℕ) (kept : List (Tab
     apart = apart;
     start = (first, ap (λ xs. slice_get xs 0) alone, starts);
     stands = λ k kind s at.
-        (let is = only k kind s at in
-        subst (λ (x : Kind). StandsOver frame stage (length kept) x s) is.0
-        (subst (λ (x : ℕ). StandsOver frame stage (length kept) first x) is.1 stands));
+        (let is = only k _ s at in
+        rw is.0 at (rw is.1 at stands));
     reached = λ k kind s at.
-        (let is = only k kind s at in
-        subst (λ (x : Kind). IsReached frame stage kept x s) is.0
-        (subst (λ (x : ℕ). IsReached frame stage kept first x) is.1 reached));
+        (let is = only k _ s at in
+        rw is.0 at (rw is.1 at reached));
   }
     where
       only : (k : ℕ) (kind : Kind) (s : ℕ) → IsAt entries k kind s → (first ≡ kind) × (0 ≡ s)
-      only k kind s at = elim (at_cases [] first 0 k kind s (ap (λ xs. slice_get xs k) (sym alone) ∙ at)) [
+      only k kind s at = elim (at_cases [] _ 0 k _ s (ap (λ xs. slice_get xs k) (sym alone) ∙ at)) [
         | inl was ↦ absurd (omega (arith, slice_get_within [] k (kind, s) was))
         | inr is ↦ is
       ]
@@ -64,12 +61,11 @@ module _ {g : Ghosts UnitWeight} (frame : Frame) (stage : ℕ) (kept : List (Tab
 pub none_made : {g : Ghosts UnitWeight} {h : Ghosts Count} (frame : Frame) (first stage : ℕ)
     (kept : List (TableState UnitWeight g)) (entries : List (Kind × ℕ)) (states : List (TableState Count h))
     → length entries ≡ 1 → states ≡ [] → AreTaken frame first stage kept entries states
-none_made {g} {h} frame first stage kept entries states one none =
-    subst (λ (xs : List (TableState Count h)). AreTaken frame first stage kept entries xs) (sym none) (record {
-      within = omega arith;
-      reached = λ k low high. absurd (omega (arith, low, high));
-      each = λ k kind s l at. absurd (omega (arith, l));
-    })
+none_made {g} {h} frame first stage kept entries states one none = rw none (record {
+  within = omega arith;
+  reached = λ k low high. absurd (omega (arith, low, high));
+  each = λ k kind s l at. absurd (omega (arith, l));
+})
 
 -- one more is nearer to the budget
 pub one_more : {X : Type 0} (budget : ℕ) (xs : List X) (x : X) → length xs < budget

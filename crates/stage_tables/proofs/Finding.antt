@@ -17,13 +17,13 @@ use Rattle.stage_tables.proofs.Listing.{get_left, at_number, at_cases, same_at}
 -- one move more
 leads_more : (frame : Frame) (stage : ℕ) (a : Kind) (p : List (List Sym)) (b : Kind) (column : List Sym) (c : Kind)
     → LeadsTo frame stage a p b → IsMove frame stage b column c → LeadsTo frame stage a (p ++ column ∷ []) c
-leads_more frame stage a [] b column c e m = (c, (subst (λ (k : Kind). IsMove frame stage k column c) (sym e) m, refl))
+leads_more frame stage a [] b column c e m = (c, (rw e m, refl))
 leads_more frame stage a (x ∷ p) b column c h m = (h.0, (h.1.0, leads_more frame stage h.0 p b column c h.1.1 m))
 
 module _ {W : Type 0} {g : Ghosts W} where
   path_more : (states : List (TableState W g)) (s : ℕ) (arcs : List (TableArc W g)) (t : ℕ) (arc : TableArc W g)
       → IsPath states s arcs t → Contains (moves_at states t) arc → IsPath states s (arcs ++ arc ∷ []) arc.target
-  path_more states s [] t arc path here = (subst (λ (x : ℕ). Contains (moves_at states x) arc) (sym path) here, refl)
+  path_more states s [] t arc path here = (rw path here, refl)
   path_more states s (a ∷ arcs) t arc path here = (path.0, path_more states a.target arcs t arc path.1 here)
 
   reads_more : (arcs : List (TableArc W g)) (word : List (List Sym)) (arc : TableArc W g) (column : List Sym)
@@ -50,10 +50,10 @@ module _ {g : Ghosts UnitWeight} (frame : Frame) (stage : ℕ) (kept : List (Tab
     prefix = r.prefix ++ column ∷ [];
     first = r.first;
     starts = r.starts;
-    leads = leads_more frame stage r.first r.prefix kind column next r.leads m;
+    leads = leads_more _ _ _ _ _ _ _ r.leads m;
     arcs = r.arcs ++ arc ∷ [];
-    path = path_more kept 0 r.arcs s arc r.path here;
-    reads = reads_more r.arcs r.prefix arc column r.reads h;
+    path = path_more _ 0 _ s _ r.path here;
+    reads = reads_more _ _ _ _ r.reads h;
   }
 
   module _ (entries next_entries : List (Kind × ℕ)) (found : AreFound frame stage kept entries)
@@ -66,32 +66,29 @@ module _ {g : Ghosts UnitWeight} (frame : Frame) (stage : ℕ) (kept : List (Tab
       apart = apart;
       start = (
         found.start.0,
-        ap (λ xs. slice_get xs 0) put
-            ∙ get_left entries ((kind, s) ∷ []) 0 (found.start.0, 0) found.start.1,
+        ap (λ xs. slice_get xs 0) put ∙ get_left _ _ 0 _ found.start.1,
         found.start.2,
       );
-      stands = λ k other t at. elim (cases k other t at) [
+      stands = λ k other t at. elim (cases k _ t at) [
         | inl was ↦ found.stands k other t was
-        | inr is ↦ subst (λ (x : Kind). StandsOver frame stage (length kept) x t) is.0
-            (subst (λ (x : ℕ). StandsOver frame stage (length kept) kind x) is.1 stands)
+        | inr is ↦ rw is.0 at (rw is.1 at stands)
       ];
-      reached = λ k other t at. elim (cases k other t at) [
+      reached = λ k other t at. elim (cases k _ t at) [
         | inl was ↦ found.reached k other t was
-        | inr is ↦ subst (λ (x : Kind). IsReached frame stage kept x t) is.0
-            (subst (λ (x : ℕ). IsReached frame stage kept kind x) is.1 reached)
+        | inr is ↦ rw is.0 at (rw is.1 at reached)
       ];
     }
       where
         cases : (k : ℕ) (other : Kind) (t : ℕ) → IsAt next_entries k other t
             → IsAt entries k other t ⊎ ((kind ≡ other) × (s ≡ t))
-        cases k other t at = at_cases entries kind s k other t (ap (λ xs. slice_get xs k) (sym put) ∙ at)
+        cases k other t at = at_cases _ _ s k _ t (ap (λ xs. slice_get xs k) (sym put) ∙ at)
 
     -- what was listed stays
     pub found_stays : (k : ℕ) (kind : Kind) (s : ℕ) → IsNumbered entries next_entries k kind s
         → Stays entries next_entries
     found_stays k kind s n j other t at = elim n.grows [
       | inl same ↦ ap (λ xs. slice_get xs j) same ∙ at
-      | inr put ↦ ap (λ xs. slice_get xs j) put.0 ∙ get_left entries ((kind, s) ∷ []) j (other, t) at
+      | inr put ↦ ap (λ xs. slice_get xs j) put.0 ∙ get_left _ _ j _ at
     ]
 
     -- a kind that is numbered is found
@@ -100,7 +97,7 @@ module _ {g : Ghosts UnitWeight} (frame : Frame) (stage : ℕ) (kept : List (Tab
         → AreFound frame stage kept next_entries
     found_numbered k kind s n stands reached = elim n.grows [
       | inl same ↦ subst (λ (xs : List (Kind × ℕ)). AreFound frame stage kept xs) (sym same) found
-      | inr put ↦ found_put kind s put.0 stands reached
+      | inr put ↦ found_put _ s put.0 stands reached
     ]
 
 -- moves are taken as before where what is listed stays
@@ -128,7 +125,7 @@ moves_taken_stay frame first stage entries next_entries stays kind arcs moves t 
   each = λ k d inside. (let was = t.each k d inside in record {
     arc = was.arc;
     listed = was.listed;
-    taken = taken_stays frame first stage entries next_entries stays kind was.arc (get_or moves k d) was.taken;
+    taken = taken_stays _ _ _ _ _ stays _ _ _ was.taken;
   });
   held = t.held;
 }
@@ -152,15 +149,14 @@ taken_push {g}
   where
     still : (t : ℕ) (arc : TableArc Count h) → Contains (moves_at states t) arc
         → Contains (moves_at (states ++ state ∷ []) t) arc
-    still t arc here = subst (λ (xs : List (TableArc Count h)). Contains xs arc)
-        (sym (moves_old states state t (moves_exist states t arc here))) here
+    still t arc here = rw (moves_old states state t (moves_exist states t arc here)) here
 
     linked : (k : ℕ) → 0 < k → k < length next_entries
         → (t : ℕ) × (t < k) × ((arc : TableArc Count h) × Contains (moves_at (states ++ state ∷ []) t) arc ×
         (arc.target ≡ k))
     linked k some l = elim (cases_lt k (length entries)) [
       | inl lower ↦ (let was = taken.reached k some lower in
-          (was.0, was.1, (was.2.0, still was.0 was.2.0 was.2.1, was.2.2)))
+          (was.0, was.1, (was.2.0, still _ _ was.2.1, was.2.2)))
       | inr upper ↦
           (let new = targets k upper l in
           let here = slice_get_within entries (length states) (kind, s) at in (
@@ -168,8 +164,7 @@ taken_push {g}
             omega (arith, here, upper),
             (
               new.0,
-              subst (λ (xs : List (TableArc Count h)). Contains xs new.0)
-                  (sym (moves_new states state)) new.1,
+              rw (moves_new states state) new.1,
               new.2,
             ),
           ))
@@ -185,12 +180,11 @@ taken_push {g}
         → u ≡ t → now_accepting k ≡ accepting → now_moves k ≡ moves
         → IsTakenState frame first stage kept next_entries was u accepting moves
         → IsTakenState frame first stage kept next_entries other t (now_accepting k) (now_moves k)
-    moved_to k was other u t accepting moves a b c d m =
-        subst (λ (x : Kind). IsTakenState frame first stage kept next_entries x t (now_accepting k) (now_moves k)) a
-        (subst (λ (x : ℕ). IsTakenState frame first stage kept next_entries was x (now_accepting k) (now_moves k)) b
+    moved_to k was other u t accepting moves a b c d m = rw a
+        at (subst (λ (x : ℕ). IsTakenState frame first stage kept next_entries was x (now_accepting k) (now_moves k)) b
         (subst (λ (xs : List (TableArc Count h)). IsTakenState frame first stage kept next_entries was u
-        (now_accepting k) xs) (sym d)
-        (subst (λ (x : Bool). IsTakenState frame first stage kept next_entries was u x moves) (sym c) m)))
+        (now_accepting k) xs) (sym d) (subst (λ (x : Bool). IsTakenState frame first stage kept next_entries was u x
+        moves) (sym c) m)))
 
     all : (k : ℕ) (other : Kind) (t : ℕ) → k < length (states ++ state ∷ []) → IsAt next_entries k other t
         → IsTakenState frame first stage kept next_entries other t (now_accepting k) (now_moves k)
@@ -221,8 +215,8 @@ pub targets_one : {h : Ghosts Count} (entries next_entries : List (Kind × ℕ))
     (kind : Kind) (s : ℕ) → IsNumbered entries next_entries arc.target kind s
     → AreTargets entries next_entries (arc ∷ [])
 targets_one {h} entries next_entries arc kind s n k low high = elim n.grows [
-  | inl same ↦ absurd (let e : length next_entries ≡ length entries = ap (λ xs. length xs) same in omega arith)
+  | inl same ↦ absurd (let e = ap (λ xs. length xs) same in omega arith)
   | inr put ↦
-      (let e : length next_entries ≡ length entries + 1 = ap (λ xs. length xs) put.0 ∙ length_push entries (kind, s) in
+      (let e = ap (λ xs. length xs) put.0 ∙ length_push _ _ in
       (arc, (0, omega arith, refl), omega (arith, put.1)))
 ]

@@ -25,7 +25,7 @@ length-zeros n = length-replicate {A = ℕ} n 0
 zero_at : (n k : ℕ) → ◌≡◌ {A = ℕ} (get_or (replicate n 0) k 0) 0
 zero_at n k = elim (cases_lt k n) [
   | inl l ↦ get_or-replicate n k 0 0 l
-  | inr l ↦ get_or_past (zeros n) k 0 (omega (arith, l, length-zeros n))
+  | inr l ↦ get_or_past _ k 0 (omega (arith, l, length-zeros n))
 ]
 
 padded_at : (v : List ℕ) (k : ℕ) → get_or (parts_of_vector v) k 0 ≡ get_or v k 0
@@ -76,6 +76,5 @@ pub costs_long : (frame : Frame) (kind : Kind) (column : List Sym)
     → length (costs_at frame kind column) ≡ last_stage (problem_in frame)
 costs_long frame kind column =
     let k = kind_at_stage frame (last_stage (problem_in frame)) kind in
-    length_costs (take (last_stage (problem_in frame)) (problem_in frame).constraints)
-    (is_tier_open (problem_in frame) k) k.phases column
-    ∙ ap length (take_all (last_stage (problem_in frame)) (problem_in frame).constraints (omega arith))
+    length_costs _ _ _ _ ∙ ap length (take_all (last_stage (problem_in frame)) (problem_in frame).constraints
+    (omega arith))

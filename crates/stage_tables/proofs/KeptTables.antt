@@ -51,23 +51,23 @@ module _ {g : Ghosts UnitWeight} (frame : Frame) (before stage : ℕ) (further :
 
   pub kept_wide : IsOfWidth frame kept
   kept_wide s arc here =
-      let have = has-first_column arc.class (by.named.filled s arc here) in
+      let have = has-first_column _ (by.named.filled s arc here) in
       let fits = (by.named.moves s arc (first_column arc.class) here have).fits in
-      sym (same_width (sets_of arc.class) (first_column arc.class) have) ∙ fits.width
+      sym (same_width _ _ have) ∙ fits.width
 
   -- each prefix that leads to a state goes on to a word
   pub kept_goes_on : (kind : Kind) (s : ℕ) → s < length kept → (r : IsReached frame stage kept kind s)
       → (rest : List (List Sym)) × Accepts kept (r.prefix ++ rest)
   kept_goes_on kind s l r =
       let run = by.on_runs s l in
-      let path = run_path kept s run.2.0 run.2.1 in
-      let word = path_word kept by.named.filled s path.0 run.2.0 path.1 in (
+      let path = run_path _ s _ run.2.1 in
+      let word = path_word _ by.named.filled s _ _ path.1 in (
         word.0,
         (
           r.arcs ++ run.2.0,
           record {
-            run = joined_run kept r.arcs run.2.0 0 s r.path run.2.1;
-            reads = joined_reads kept r.arcs run.2.0 r.prefix word.0 r.reads word.1;
+            run = joined_run _ _ _ 0 s r.path run.2.1;
+            reads = joined_reads kept _ _ _ _ r.reads word.1;
           },
         ),
       )
@@ -120,11 +120,9 @@ module _ {g : Ghosts UnitWeight} (frame : Frame) (before stage : ℕ) (further :
     -- all kinds that are found make the table of the stage
     pub is_explored : IsExplored frame stage kept (keys_of entries) states
     is_explored = record {
-      named = is_named frame first stage kept entries found states taken all;
-      weighed = weighs frame first stage kept entries found states taken all;
-      fit = all_fit frame first stage kept entries found states taken all;
-      accepts = λ T. same_words (problem_in frame) before stage further names kept by.named earlier
-          (values_of entries) (names_at frame stage (keys_of entries)) states from_kept T;
-      on_runs = λ s l. found_on_runs (problem_in frame) before stage further names kept by.named earlier
-          (values_of entries) (names_at frame stage (keys_of entries)) states from_kept by.on_runs s l;
+      named = is_named _ _ _ _ _ found _ taken all;
+      weighed = weighs _ _ _ _ _ found _ taken all;
+      fit = all_fit _ _ _ _ _ found _ taken all;
+      accepts = λ T. same_words _ _ _ further _ _ by.named earlier _ _ _ from_kept T;
+      on_runs = λ s l. found_on_runs _ _ _ further _ _ by.named earlier _ _ _ from_kept by.on_runs s l;
     }

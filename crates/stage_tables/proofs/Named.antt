@@ -29,7 +29,7 @@ use Rattle.stage_tables.proofs.Listing.{at_number, get_map, get_or_map}
 -- what every stage of a frame meets
 pub frame_stage : (frame : Frame) (r : ℕ) → r ≤ last_stage (problem_in frame) → IsStage (problem_in frame) r
 frame_stage frame r l = record {
-  split = tiers_split frame.grammar.now.tiers.kinds.items;
+  split = tiers_split _;
   form = form_from (problem_in frame) frame.well_formed;
   over = over_tiers frame.grammar.now;
   within = l;
@@ -40,8 +40,7 @@ module _ {g : Ghosts UnitWeight} (frame : Frame) (first stage : ℕ) (kept : Lis
   -- the name of a kind
   named_at : (k : ℕ) (kind : Kind) (s : ℕ) → IsAt entries k kind s → (d : PrefixKind)
       → get_or (names_at frame stage (keys_of entries)) k d ≡ kind_at_stage frame stage kind
-  named_at k kind s at d = get_or_map (kind_at_stage frame stage) (keys_of entries) k kind d
-      (get_map (λ e. e.0) entries k (kind, s) at)
+  named_at k kind s at d = get_or_map _ _ k _ d (get_map _ _ k _ at)
 
   names_count : length (names_at frame stage (keys_of entries)) ≡ length entries
   names_count = length-map (keys_of entries) (kind_at_stage frame stage) ∙ length-map entries (λ e. e.0)
@@ -50,15 +49,12 @@ module _ {g : Ghosts UnitWeight} (frame : Frame) (first stage : ℕ) (kept : Lis
   pub names_apart : AllPairs (λ k l. k ≢ l) (names_at frame stage (keys_of entries))
   names_apart i j d less inside same =
       let long : j < length entries = omega (arith, names_count) in
-      let a = at_number entries i (omega (arith, less, long)) in
-      let b = at_number entries j long in
-      let told : kind_at_stage frame stage a.0 ≡ kind_at_stage frame stage b.0 = sym (named_at i a.0 a.1 a.2 d) ∙ same
-      ∙ named_at j b.0 b.1 b.2 d in
-      let one : a.0 ≡ b.0 = same_told frame stage a.0 b.0 (found.stands i a.0 a.1 a.2).fits
-      (found.stands j b.0 b.1 b.2).fits told in
+      let a = at_number _ i (omega (arith, less, long)) in
+      let b = at_number _ j long in
+      let told = sym (named_at i _ _ a.2 d) ∙ same ∙ named_at j _ _ b.2 d in
+      let one = same_told _ _ _ _ (found.stands i a.0 a.1 a.2).fits (found.stands j b.0 b.1 b.2).fits told in
       found.apart i j a.0 less (omega (arith, long, length-map entries (λ e. e.0)))
-      (get_or_map (λ e. e.0) entries i (a.0, a.1) a.0 a.2 ∙ one
-      ∙ sym (get_or_map (λ e. e.0) entries j (b.0, b.1) a.0 b.2))
+      (get_or_map _ _ i _ _ a.2 ∙ one ∙ sym (get_or_map _ _ j _ _ b.2))
 
   -- where each kind that is reached is that of a prefix of some timelines, too many kinds are over a budget
   pub over_budget : (timelines : List (List Sym) → Type 0)
@@ -69,8 +65,8 @@ module _ {g : Ghosts UnitWeight} (frame : Frame) (first stage : ℕ) (kept : Lis
     kinds = names_at frame stage (keys_of entries);
     distinct = names_apart;
     met = λ k d l.
-        (let a = at_number entries k (omega (arith, names_count)) in
-        subst (λ (x : PrefixKind). IsMet frame stage timelines x) (sym (named_at k a.0 a.1 a.2 d)) (met k a.0 a.1 a.2));
+        (let a = at_number _ k (omega (arith, names_count)) in
+        rw (named_at k a.0 a.1 a.2 d) (met k _ _ a.2));
     more = omega (arith, names_count);
   }
     where
@@ -83,21 +79,21 @@ module _ {g : Ghosts UnitWeight} (frame : Frame) (first stage : ℕ) (kept : Lis
             prefix = r.prefix;
             rest = on.0;
             accepted = on.1;
-            of_kind = sym (kinds_law frame stage r.first r.starts r.prefix kind r.leads);
+            of_kind = sym (kinds_law _ _ _ r.starts _ _ r.leads);
           }
 
   module _ {h : Ghosts Count} (states : List (TableState Count h))
       (taken : AreTaken frame first stage kept entries states) (all : length states ≡ length entries) where
     pub name_is : (k : ℕ) (kind : Kind) (s : ℕ) → IsAt entries k kind s
         → name_of (names_at frame stage (keys_of entries)) k ≡ kind_at_stage frame stage kind
-    name_is k kind s at = named_at k kind s at (record { place = 0; opened = []; phases = [] })
+    name_is k kind s at = named_at k _ s at (record { place = 0; opened = []; phases = [] })
 
     -- the kind of a state
     pub kind_of_state : (k : ℕ) → k < length states → (kind : Kind) × (s : ℕ) × IsAt entries k kind s
-    kind_of_state k l = at_number entries k (omega (arith, all))
+    kind_of_state k l = at_number _ k (omega (arith, all))
 
     pub base_is : (k : ℕ) (kind : Kind) (s : ℕ) → IsAt entries k kind s → base_of (values_of entries) k ≡ s
-    base_is k kind s at = get_or_map (λ e. e.1) entries k (kind, s) 0 at
+    base_is k kind s at = get_or_map _ _ k _ 0 at
 
     -- the kept move of a new one
     pub old_move : (k : ℕ) (b : TableArc Count h) → Contains (moves_at states k) b
@@ -117,7 +113,7 @@ module _ {g : Ghosts UnitWeight} (frame : Frame) (first stage : ℕ) (kept : Lis
         → FitsKind (problem_in frame) (name_of (names_at frame stage (keys_of entries)) k) column
     fits_name k b column here p =
         let m = old_move k b here in
-        subst (λ (x : PrefixKind). FitsKind (problem_in frame) x column) (sym (name_is k m.0 m.1 m.2))
+        subst (λ (x : PrefixKind). FitsKind (problem_in frame) x column) (sym (name_is k _ _ m.2))
         (m.3.2.moves column p).column_fits
 
     pub leads : (k : ℕ) (b : TableArc Count h) (column : List Sym) → Contains (moves_at states k) b
@@ -126,15 +122,13 @@ module _ {g : Ghosts UnitWeight} (frame : Frame) (first stage : ℕ) (kept : Lis
     leads k b column here p =
         let m = old_move k b here in
         let t = m.3.2 in
-        name_is b.target t.next m.3.0.target t.at
-        ∙ (t.moves column p).leads
-        ∙ ap (λ x. next_kind (problem_in frame) stage x column) (sym (name_is k m.0 m.1 m.2))
+        name_is _ _ _ t.at ∙ (t.moves column p).leads ∙ ap (λ x. next_kind (problem_in frame) stage x column)
+        (sym (name_is k _ _ m.2))
 
     pub weighs : AreWeighed (problem_in frame) stage (names_at frame stage (keys_of entries)) states
     weighs k b column here p =
         let m = old_move k b here in
-        m.3.2.weighs column p
-        ∙ ap (λ x. cost_of (problem_in frame) stage x column) (sym (name_is k m.0 m.1 m.2))
+        m.3.2.weighs column p ∙ ap (λ x. cost_of (problem_in frame) stage x column) (sym (name_is k _ _ m.2))
 
     -- there is a new move on each column of a kept one that fits
     pub columns_new : (k : ℕ) (column : List Sym) → k < length states
@@ -144,21 +138,17 @@ module _ {g : Ghosts UnitWeight} (frame : Frame) (first stage : ℕ) (kept : Lis
     columns_new k column l move fits =
         let a = kind_of_state k l in
         let state = taken.each k a.0 a.1 l a.2 in
-        let here : Contains (moves_at kept a.1) move.0 = subst (λ (x : ℕ). Contains (moves_at kept x) move.0)
-        (base_is k a.0 a.1 a.2) move.1 in
-        let at = subst (λ (x : PrefixKind). FitsKind (problem_in frame) x column) (name_is k a.0 a.1 a.2) fits in
-        let some : some_has (move_classes (moves_at states k)) column ≡ true =
-        some_from_same (move_classes (moves_at states k)) (move_classes (moves_at kept a.1)) column
-        (state.taken.held column at)
-        ∙ held_on (moves_at kept a.1) move.0 column here move.2 in
-        move_on (moves_at states k) column some
+        let here = rw (base_is k a.0 a.1 a.2) at move.1 in
+        let at = rw (name_is k a.0 a.1 a.2) at fits in
+        let some = some_from_same _ _ _ (state.taken.held column at) ∙ held_on _ _ _ here move.2 in
+        move_on _ _ some
 
     pub columns_old : (k : ℕ) (column : List Sym) → HasMoveOn states k column
         → HasMoveOn kept (base_of (values_of entries) k) column
     columns_old k column move =
-        let m = old_move k move.0 move.1 in (
+        let m = old_move k _ move.1 in (
           m.3.0,
-          subst (λ (x : ℕ). Contains (moves_at kept x) m.3.0) (sym (base_is k m.0 m.1 m.2)) m.3.1,
+          rw (base_is k m.0 m.1 m.2) m.3.1,
           m.3.2.within column move.2,
         )
 
@@ -213,10 +203,10 @@ module _ {g : Ghosts UnitWeight} (frame : Frame) (first stage : ℕ) (kept : Lis
         → accepting_at states k ≡ is_final (problem_in frame) (name_of (names_at frame stage (keys_of entries)) k)
     ends_at k l =
         let a = kind_of_state k l in
-        (taken.each k a.0 a.1 l a.2).accepts ∙ ap (is_final (problem_in frame)) (sym (name_is k a.0 a.1 a.2))
+        (taken.each k a.0 a.1 l a.2).accepts ∙ ap (is_final (problem_in frame)) (sym (name_is k _ _ a.2))
 
     pub start_named : name_of (names_at frame stage (keys_of entries)) 0 ≡ kind_of (problem_in frame) stage []
-    start_named = name_is 0 found.start.0 0 found.start.1 ∙ found.start.2.is
+    start_named = name_is 0 _ 0 found.start.1 ∙ found.start.2.is
 
     -- the kinds name the states
     pub is_named : AreNamedByKinds (problem_in frame) stage (names_at frame stage (keys_of entries)) states
@@ -226,13 +216,12 @@ module _ {g : Ghosts UnitWeight} (frame : Frame) (first stage : ℕ) (kept : Lis
       some = some_state;
       start = start_named;
       ends = ends_at;
-      moves = λ k b column here p. record { fits = fits_name k b column here p; leads = leads k b column here p };
+      moves = λ k b column here p. record { fits = fits_name k b _ here p; leads = leads k b _ here p };
       targets = new_targets;
       filled = new_filled;
     }
 
     pub all_fit : All (FitsFrame frame stage) (keys_of entries)
     all_fit k d l =
-        let a = at_number entries k (omega (arith, l, length-map entries (λ e. e.0))) in
-        subst (λ (x : Kind). FitsFrame frame stage x) (sym (get_or_map (λ e. e.0) entries k (a.0, a.1) d a.2))
-        (found.stands k a.0 a.1 a.2).fits
+        let a = at_number _ k (omega (arith, l, length-map entries (λ e. e.0))) in
+        subst (λ (x : Kind). FitsFrame frame stage x) (sym (get_or_map _ _ k _ d a.2)) (found.stands k a.0 a.1 a.2).fits

@@ -19,9 +19,7 @@ module _ (kind : Kind) (state : ℕ) where
 
   pub numbered_as : (entries now next : List (Kind × ℕ)) (j k : ℕ) → now ≡ next → j ≡ k
       → IsNumbered entries next k kind state → IsNumbered entries now j kind state
-  numbered_as entries now next j k same at n =
-      subst (λ (xs : List (Kind × ℕ)). IsNumbered entries xs j kind state) (sym same)
-      (subst (λ (i : ℕ). IsNumbered entries next i kind state) (sym at) n)
+  numbered_as entries now next j k same at n = rw same (rw at n)
 
   -- a kind more in front
   behind : (e : Kind × ℕ) (entries next : List (Kind × ℕ)) (k : ℕ) → IsNumbered entries next k kind state
@@ -38,35 +36,31 @@ module _ (kind : Kind) (state : ℕ) where
   pub numbered : (entries : List (Kind × ℕ)) → StandsAt entries
       → IsNumbered entries (insert_entry kind_eq entries kind state) (number entries) kind state
   numbered [] over = record { at = refl; grows = inr (refl, refl) }
-  numbered (e ∷ entries) over = by (kind_eq kind e.0) refl (numbered entries (λ k s at. over (suc k) s at))
+  numbered (e ∷ entries) over = by _ refl (numbered entries (λ k s at. over (suc k) s at))
     where
       by : (b : Bool) → kind_eq kind e.0 ≡ b
           → IsNumbered entries (insert_entry kind_eq entries kind state) (number entries) kind state
           → IsNumbered (e ∷ entries) (insert_entry kind_eq (e ∷ entries) kind state) (number (e ∷ entries)) kind state
       by true h rest =
-          let same : kind ≡ e.0 = (kind_eq-Decides kind e.0).0 h in
-          let here : IsAt (e ∷ entries) 0 kind e.1 = ap (λ (x : Kind). Some (x, e.1)) (sym same) in
-          let own : e.1 ≡ state = over 0 e.1 here in
-          numbered_as (e ∷ entries) _ (e ∷ entries) _ 0
-          (ap (λ b. cond b ((e.0, state) ∷ entries) (e ∷ insert_entry kind_eq entries kind state)) h
-          ∙ ap (λ x. (e.0, x) ∷ entries) (sym own))
-          (ap (λ b. cond (not b) (1 + number entries) 0) h)
+          let same = (kind_eq-Decides _ _).0 h in
+          let here = ap (λ (x : Kind). Some (x, e.1)) (sym same) in
+          let own = over 0 e.1 here in
+          numbered_as _ _ _ _ 0 (ap (λ b. cond b ((e.0, state) ∷ entries) (e ∷ insert_entry kind_eq entries kind state))
+          h ∙ ap (λ x. (e.0, x) ∷ entries) (sym own)) (ap (λ b. cond (not b) (1 + number entries) 0) h)
           (record { at = here ∙ ap (λ (x : ℕ). Some (kind, x)) own; grows = inl refl })
       by false h rest =
           let one : 1 + number entries ≡ suc (number entries) = omega arith in
-          numbered_as (e ∷ entries) _ (e ∷ insert_entry kind_eq entries kind state) _ (suc (number entries))
-          (ap (λ b. cond b ((e.0, state) ∷ entries) (e ∷ insert_entry kind_eq entries kind state)) h)
-          (ap (λ b. cond (not b) (1 + number entries) 0) h ∙ one)
-          (behind e entries (insert_entry kind_eq entries kind state) (number entries) rest)
+          numbered_as _ _ _ _ _ (ap (λ b. cond b ((e.0, state) ∷ entries) (e ∷ insert_entry kind_eq entries kind state))
+          h) (ap (λ b. cond (not b) (1 + number entries) 0) h ∙ one) (behind e _ _ _ rest)
 
 module _ (entries next : List (Kind × ℕ)) (k : ℕ) (kind : Kind) (s budget : ℕ)
     (n : IsNumbered entries next k kind s) (few : length entries ≤ budget) where
   -- a number within the budget leaves no more kinds than that
   pub few_numbered : k < budget → length next ≤ budget
   few_numbered inside = elim n.grows [
-    | inl same ↦ (let e : length next ≡ length entries = ap (λ xs. length xs) same in omega arith)
+    | inl same ↦ (let e = ap (λ xs. length xs) same in omega arith)
     | inr put ↦
-        (let e : length next ≡ length entries + 1 = ap (λ xs. length xs) put.0 ∙ length_push entries (kind, s) in
+        (let e = ap (λ xs. length xs) put.0 ∙ length_push _ _ in
         omega (arith, put.1))
   ]
 
@@ -74,7 +68,7 @@ module _ (entries next : List (Kind × ℕ)) (k : ℕ) (kind : Kind) (s budget :
   pub put_beyond : budget ≤ k → IsPutLast entries next kind s
   put_beyond over = elim n.grows [
     | inl same ↦
-        (let e : length next ≡ length entries = ap (λ xs. length xs) same in
+        (let e = ap (λ xs. length xs) same in
         let l = slice_get_within next k (kind, s) n.at in
         absurd (omega arith))
     | inr put ↦ put.0

@@ -45,7 +45,7 @@ module _ (exploring : Exploring) (constraint : ℕ) (kind : Kind) where
     added = [];
     new_is = sym (append-nil old);
     classes = refl;
-    good = All-nil (IsPartOfPiece exploring constraint kind piece);
+    good = All-nil _;
   }
 
   module _ (piece : Piece) (is : IsPiece exploring.frame.now exploring.stage exploring.stage kind piece)
@@ -57,15 +57,12 @@ module _ (exploring : Exploring) (constraint : ℕ) (kind : Kind) where
     part_of n part made inside at class target cost = record {
       within = within;
       is = record {
-        moves = λ column h. subst (IsMoveTo column) (sym target) (is.moves column (within column h));
-        costs = λ column h. cost ∙ is.costs column (within column h);
+        moves = λ column h. rw target (is.moves column (within _ h));
+        costs = λ column h. cost ∙ is.costs column (within _ h);
       };
-      alike = subst (IsAlike (cost_under exploring.frame.now exploring.stage constraint kind))
-          (sym same) (piece_alike exploring.frame.now exploring.stage constraint kind (get_or finer n part)
-          (are.each n part inside));
-      filled = subst (λ (c : Class). IsTrue (is_filled c)) (listed ∙ sym same) (are.apart.filled n part.class long);
-      wide = subst (λ (c : Class). length (sets_of c) ≡ (tiers_in exploring.frame.now).width) (listed ∙ sym same)
-          (are.apart.one_width n part.class long);
+      alike = rw same (piece_alike _ _ _ _ _ (are.each n part inside));
+      filled = rw (listed ∙ sym same) at (are.apart.filled n part.class long);
+      wide = rw (listed ∙ sym same) at (are.apart.one_width n part.class long);
     }
       where
         IsMoveTo : List Sym → Kind → Type 0
@@ -78,12 +75,11 @@ module _ (exploring : Exploring) (constraint : ℕ) (kind : Kind) where
         same = class ∙ ap (λ (p : Piece). p.class) at
 
         listed : get_or (piece_classes finer) n part.class ≡ (get_or finer n part).class
-        listed = get_or-map (λ (p : Piece). p.class) finer n part part.class inside
+        listed = get_or-map _ _ n _ _ inside
 
         within : (column : List Sym) → IsTrue (has made.class column) → IsTrue (has piece.class column)
-        within column h = ((are.columns column).0
-            (list_any_at (λ c. has c column) (piece_classes finer) n part.class long
-            (ap (λ c. has c column) (listed ∙ sym same) ∙ h))).0
+        within column h = ((are.columns column).0 (list_any_at _ _ n _ long (ap (λ c. has c column) (listed ∙ sym same)
+            ∙ h))).0
 
     pub next_part : (old new : List Piece) (n : ℕ) (part made : Piece) → PushedParts piece finer old new n
         → n < length finer → part ≡ get_or finer n part
@@ -92,20 +88,18 @@ module _ (exploring : Exploring) (constraint : ℕ) (kind : Kind) where
     next_part old new n part made so_far inside at class target cost = record {
       added = so_far.added ++ made ∷ [];
       new_is = ap (λ xs. xs ++ made ∷ []) so_far.new_is ∙ append_assoc old so_far.added (made ∷ []);
-      classes =
-          map-append (λ (p : Piece). p.class) so_far.added (made ∷ [])
-          ∙ ap (λ cs. cs ++ made.class ∷ []) so_far.classes
-          ∙ ap (λ c. piece_classes (take n finer) ++ c ∷ []) (class ∙ ap (λ (p : Piece). p.class) at)
-          ∙ sym (map-append (λ (p : Piece). p.class) (take n finer) (get_or finer n part ∷ []))
-          ∙ ap piece_classes (sym (take_more finer n part inside));
+      classes = map-append (λ (p : Piece). p.class) so_far.added (made ∷ []) ∙ ap (λ cs. cs ++ made.class ∷ [])
+          so_far.classes ∙ ap (λ c. piece_classes (take n finer) ++ c ∷ []) (class ∙ ap (λ (p : Piece). p.class) at)
+          ∙ sym (map-append (λ (p : Piece). p.class) (take n finer) (get_or finer n part ∷ [])) ∙ ap piece_classes
+          (sym (take_more _ n _ inside));
       good = All-push (IsPartOfPiece exploring constraint kind piece) so_far.added made so_far.good
-          (part_of n part made inside at class target cost);
+          (part_of n _ _ inside at class target cost);
     }
 
     same_held : (column : List Sym) (b : Bool) → has piece.class column ≡ b
         → some_has (piece_classes finer) column ≡ has piece.class column
     same_held column true h = (are.columns column).1 (h, (is.moves column h).column_fits) ∙ sym h
-    same_held column false h = false_from_ne_true (some_has (piece_classes finer) column)
+    same_held column false h = false_from_ne_true _
         (λ some. false≢true (sym h ∙ ((are.columns column).0 some).0)) ∙ sym h
 
     pub all_parts : (old new : List Piece) (n : ℕ) → PushedParts piece finer old new n → n ≡ length finer
@@ -113,12 +107,9 @@ module _ (exploring : Exploring) (constraint : ℕ) (kind : Kind) where
     all_parts old new n so_far last = record {
       added = so_far.added;
       new_is = so_far.new_is;
-      held = λ column.
-          ap (λ cs. times_held cs column) (so_far.classes ∙ ap (λ k. piece_classes (take k finer)) last
-          ∙ ap piece_classes (take-length finer))
-          ∙ held_once (piece_classes finer) column (has piece.class column)
-          (once_from_apart (piece_classes finer) are.apart.apart column)
-          (same_held column (has piece.class column) refl);
+      held = λ column. ap (λ cs. times_held cs column) (so_far.classes ∙ ap (λ k. piece_classes (take k finer)) last
+          ∙ ap piece_classes (take-length finer)) ∙ held_once _ _ _ (once_from_apart _ are.apart.apart _)
+          (same_held _ _ refl);
       good = so_far.good;
     }
 
@@ -126,9 +117,9 @@ module _ (exploring : Exploring) (constraint : ℕ) (kind : Kind) where
 
   pub no_piece_parted : (pieces parts : List Piece) → parts ≡ []
       → ArePartedPieces exploring constraint kind (take 0 pieces) parts
-  no_piece_parted pieces parts none = subst (ArePartedPieces exploring constraint kind []) (sym none) (record {
+  no_piece_parted pieces parts none = rw none (record {
     held = λ column. refl;
-    good = All-nil (IsPartOfSome exploring constraint kind []);
+    good = All-nil _;
   })
 
   split_times : (xs ys : List Piece) (column : List Sym) → times_held (piece_classes (xs ++ ys)) column
@@ -170,8 +161,8 @@ module _ (exploring : Exploring) (constraint : ℕ) (kind : Kind) where
       → ArePartedPieces exploring constraint kind (take n pieces) parts → n ≡ length pieces
       → ArePartedPieces exploring constraint kind pieces parts
   all_pieces_parted pieces parts n so_far last =
-      let whole : take n pieces ≡ pieces = ap (λ k. take k pieces) last ∙ take-length pieces in
-      subst (λ xs. ArePartedPieces exploring constraint kind xs parts) whole so_far
+      let whole = ap (λ k. take k pieces) last ∙ take-length pieces in
+      rw whole at so_far
 
 -- ---- one constraint after another
 
@@ -190,13 +181,12 @@ module _ (exploring : Exploring) (kind : Kind) (class : Class) where
 
   pub pieces_wide : (pieces : List Piece) (n : ℕ) → ArePiecesBefore exploring kind class pieces n
       → All (λ piece. length (sets_of piece.class) ≡ (tiers_in exploring.frame.now).width) pieces
-  pieces_wide pieces n are k d l = subst (λ (c : Class). length (sets_of c) ≡ (tiers_in exploring.frame.now).width)
-      (get_or-map (λ (p : Piece). p.class) pieces k d d.class l)
+  pieces_wide pieces n are k d l = rw (get_or-map (λ (p : Piece). p.class) pieces k d d.class l) at
       (are.apart.one_width k d.class (omega (arith, l, length-map pieces (λ (p : Piece). p.class))))
 
   classes_good : (P : Class → Type 0) (parts : List Piece) → All (λ (p : Piece). P p.class) parts
       → All P (piece_classes parts)
-  classes_good P parts good = All-map P (λ (p : Piece). p.class) parts good
+  classes_good P parts good = All-map P _ _ good
 
   pub next_constraint : (pieces parts : List Piece) (n : ℕ) → ArePiecesBefore exploring kind class pieces n
       → ArePartedPieces exploring n kind pieces parts → ArePiecesBefore exploring kind class parts (n + 1)
@@ -235,7 +225,7 @@ module _ (exploring : Exploring) (kind : Kind) (class : Class) where
       | inr more ↦
           (let same : exploring.stage ≡ r = omega (arith, high, more) in
           subst (λ i. IsAlike (cost_under exploring.frame.now exploring.stage i kind) (get_or pieces k d).class) same
-          (piece_alike exploring.frame.now exploring.stage exploring.stage kind (get_or pieces k d) (are.each k d l)))
+          (piece_alike _ _ _ _ _ (are.each k d l)))
     ];
   }
 

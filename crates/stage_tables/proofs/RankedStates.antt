@@ -22,12 +22,12 @@ use Rattle.stage_tables.proofs.Zips.{zip_push, zip_from, zip_weaken}
 pub zip_next : {A B : Type 0} (R : A → B → Type 0) (xs : List A) (ys : List B) (n : ℕ) (x : A) (y : B)
     → AllZip R (take n xs) ys → n < length xs → x ≡ get_or xs n x → R x y → AllZip R (take (n + 1) xs) (ys ++ y ∷ [])
 zip_next {A} R xs ys n x y zipped l is r =
-    let more : take (n + 1) xs ≡ take n xs ++ x ∷ [] = take_more xs n x l ∙ ap (λ e. take n xs ++ e ∷ []) (sym is) in
-    subst (λ (zs : List A). AllZip R zs (ys ++ y ∷ [])) (sym more) (zip_push R (take n xs) ys x y zipped r)
+    let more = take_more xs n x l ∙ ap (λ e. take n xs ++ e ∷ []) (sym is) in
+    rw more (zip_push R _ ys x y zipped r)
 
 pub zip_all : {A B : Type 0} (R : A → B → Type 0) (xs : List A) (ys : List B) (n : ℕ) → AllZip R (take n xs) ys
     → length xs ≤ n → AllZip R xs ys
-zip_all {A} R xs ys n zipped l = subst (λ (zs : List A). AllZip R zs ys) (take_all n xs l) zipped
+zip_all {A} R xs ys n zipped l = rw (take_all n xs l) at zipped
 
 module _ {g : Ghosts Count} {h : Ghosts Ranked} (frame : Frame) (kinds : List Kind) (old : List (TableState Count g))
   where
@@ -73,8 +73,7 @@ module _ {g : Ghosts Count} (frame : Frame) (kinds : List Kind) (old : List (Tab
   -- the kind of a state fits the frame
   pub kind_fits : (k : ℕ) (kind : Kind) → k < length old → kind ≡ get_or kinds k kind
       → FitsFrame frame (last_stage (problem_in frame)) kind
-  kind_fits k kind l is = subst (FitsFrame frame (last_stage (problem_in frame))) (sym is)
-      (whole.fit k kind (omega (arith, l, many_kinds)))
+  kind_fits k kind l is = rw is (whole.fit k kind (omega (arith, l, many_kinds)))
 
   pub kind_is : (k : ℕ) (kind : Kind) → k < length old → kind ≡ get_or kinds k kind → kind ≡ kind_numbered kinds k
   kind_is k kind l is = is ∙ get_or_default kinds k kind _ (omega (arith, l, many_kinds))
@@ -90,12 +89,11 @@ module _ {g : Ghosts Count} (frame : Frame) (kinds : List Kind) (old : List (Tab
       → All (λ arc. AreColumnsOf frame kind arc.class) (moves_at old s)
   columns_of s kind l is k d inside =
       let arc = get_or (moves_at old s) k d in
-      let here = Contains-get_or (moves_at old s) k d inside in
-      let named = name_is s l ∙ ap (kind_at_stage frame (last_stage (problem_in frame))) (sym (kind_is s kind l is)) in
+      let here = Contains-get_or _ k d inside in
+      let named = name_is s l ∙ ap (kind_at_stage frame (last_stage (problem_in frame))) (sym (kind_is s _ l is)) in
       record {
         filled = whole.named.filled s arc here;
-        alike = subst (λ (q : PrefixKind). IsAlikeOn (move_costs (problem_in frame) (last_stage (problem_in frame)) q)
-            arc.class) named (whole.alike s arc here);
+        alike = rw named at (whole.alike s arc here);
         wide = λ column reads. (whole.named.moves s arc column here reads).fits.width;
       }
 
@@ -105,28 +103,24 @@ module _ {g : Ghosts Count} (frame : Frame) (kinds : List Kind) (old : List (Tab
     are_alike = record {
       each_state = made.count;
       ends = made.ends;
-      moves = λ k l.
-          zip_weaken (IsRankedMove frame (kind_numbered kinds k)) IsAlike
-          (λ a b same. record { same_class = same.same_class; same_target = same.same_target })
-          (moves_at old k) (moves_at new k) (made.moves k l);
+      moves = λ k l. zip_weaken _ _
+          (λ a b same. record { same_class = same.same_class; same_target = same.same_target }) _ _ (made.moves k l);
     }
 
     weighed : AreWeighedByAll (problem_in frame) (names_at frame (last_stage (problem_in frame)) kinds) new
     weighed s b column here reads =
         let l : s < length old = omega (arith, moves_exist new s b here, made.count) in
-        let a = zip_from (IsRankedMove frame (kind_numbered kinds s)) (moves_at old s) (moves_at new s)
-        (made.moves s l) here.0 b here.1 here.2 in
-        a.2.weighs column (subst (λ (c : Class). IsTrue (has c column)) a.2.same_class reads)
+        let a = zip_from _ _ _ (made.moves s l) _ b here.1 here.2 in
+        a.2.weighs column (rw a.2.same_class at reads)
         ∙ ap (λ k. parts_of_vector (move_costs (problem_in frame) (last_stage (problem_in frame)) k column))
         (sym (name_is s l))
 
     -- the table of a single pass
     pub is_ranked : IsRankedTable (problem_in frame) (names_at frame (last_stage (problem_in frame)) kinds) new
     is_ranked = record {
-      named = alike_named old new are_alike (problem_in frame) (last_stage (problem_in frame))
-          (names_at frame (last_stage (problem_in frame)) kinds) whole.named;
+      named = alike_named _ _ are_alike _ _ _ whole.named;
       weighed = weighed;
-      accepts = λ T. (let same = alike_words old new are_alike T in
+      accepts = λ T. (let same = alike_words _ _ are_alike T in
           (λ a. (whole.accepts T).0 (same.0 a), λ x. same.1 ((whole.accepts T).1 x)));
-      on_runs = alike_on_runs old new are_alike whole.named.filled whole.on_runs;
+      on_runs = alike_on_runs _ _ are_alike whole.named.filled whole.on_runs;
     }

@@ -26,7 +26,7 @@ module _ {W V : Type 0} {g : Ghosts W} {h : Ghosts V} (old : List (TableState W 
   path_with (a ∷ arcs) (column ∷ p) s t path reads =
       let b = goes.moves s a column path.0 reads.0 in
       let rest = path_with arcs p a.target t path.1 reads.1 in
-      (b.0 ∷ rest.0, (b.1, subst (λ x. IsPath new x rest.0 t) (sym b.3) rest.1))
+      (b.0 ∷ rest.0, (b.1, rw b.3 rest.1))
 
   run_with : (arcs : List (TableArc W g)) (p : List (List Sym)) (s : ℕ) → IsRun old s arcs → Reads arcs p
       → (others : List (TableArc V h)) × IsRun new s others × Reads others p
@@ -36,18 +36,18 @@ module _ {W V : Type 0} {g : Ghosts W} {h : Ghosts V} (old : List (TableState W 
   run_with (a ∷ arcs) (column ∷ p) s run reads =
       let b = goes.moves s a column run.0 reads.0 in
       let rest = run_with arcs p a.target run.1 reads.1 in
-      (b.0 ∷ rest.0, (b.1, subst (λ x. IsRun new x rest.0) (sym b.3) rest.1), (b.2, rest.2))
+      (b.0 ∷ rest.0, (b.1, rw b.3 rest.1), (b.2, rest.2))
 
   pub words_with : (T : List (List Sym)) → Accepts old T → Accepts new T
   words_with T a =
-      let run = run_with a.0 T 0 a.1.run a.1.reads in
+      let run = run_with _ T 0 a.1.run a.1.reads in
       (run.0, record { run = run.1; reads = run.2 })
 
   -- a state that is on a run stays on one
   pub on_runs_with : ClassesFilled old → (s : ℕ) → IsOnRun old s → IsOnRun new s
   on_runs_with filled s on =
-      let p = path_word old filled 0 s on.0 on.1 in
-      let q = some_word old filled s on.2.0 on.2.1 in
-      let path = path_with on.0 p.0 0 s on.1 p.1 in
-      let run = run_with on.2.0 q.0 s on.2.1 q.1 in
+      let p = path_word _ filled 0 s _ on.1 in
+      let q = some_word _ filled s _ on.2.1 in
+      let path = path_with _ _ 0 s on.1 p.1 in
+      let run = run_with _ _ s on.2.1 q.1 in
       (path.0, path.1, (run.0, run.1))

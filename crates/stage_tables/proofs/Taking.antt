@@ -29,23 +29,21 @@ use Rattle.stage_tables.proofs.Finding.{next_stands, next_reached, taken_stays, 
 -- it has a column
 piece_column : (exploring : Exploring) (kind : Kind) (class : Class) (piece : Piece)
     → IsPieceFrom exploring kind class piece → (column : List Sym) × IsTrue (has piece.class column)
-piece_column exploring kind class piece p = (first_column piece.class, has-first_column piece.class p.filled)
+piece_column exploring kind class piece p = (first_column piece.class, has-first_column _ p.filled)
 
 module _ {g : Ghosts UnitWeight} (exploring : Exploring) (kept : List (TableState UnitWeight g))
     (exist : TargetsExist kept) (kind : Kind) (s : ℕ) (arc : TableArc UnitWeight g)
     (here : Contains (moves_at kept s) arc) (piece : Piece) (p : IsPieceFrom exploring kind arc.class piece) where
   pub piece_stands : StandsOver exploring.frame.now exploring.stage (length kept) piece.target arc.target
   piece_stands =
-      let column = piece_column exploring kind arc.class piece p in
-      next_stands exploring.frame.now exploring.stage kept exist kind s arc column.0 here piece.target
-      (p.is.moves column.0 column.1)
+      let column = piece_column _ _ _ _ p in
+      next_stands _ _ _ exist _ s _ _ here _ (p.is.moves column.0 column.1)
 
   pub piece_reached : IsReached exploring.frame.now exploring.stage kept kind s
       → IsReached exploring.frame.now exploring.stage kept piece.target arc.target
   piece_reached r =
-      let column = piece_column exploring kind arc.class piece p in
-      next_reached exploring.frame.now exploring.stage kept exist kind s r arc column.0 here
-      (p.within column.0 column.1) piece.target (p.is.moves column.0 column.1)
+      let column = piece_column _ _ _ _ p in
+      next_reached _ _ _ exist _ s r _ _ here (p.within column.0 column.1) _ (p.is.moves column.0 column.1)
 
 -- what a column costs under the last constraint, and 0 where there is none
 pub last_cost : (problem : Problem) (stage : ℕ) (k : PrefixKind) (column : List Sym)
@@ -70,36 +68,31 @@ pub pieces_hold : (exploring : Exploring) (kind : Kind) (class : Class) (pieces 
     → ArePiecesFrom exploring kind class pieces → (column : List Sym)
     → FitsAt exploring.frame.now exploring.stage kind column
     → times_held (piece_classes pieces) column ≡ times_held (class ∷ []) column
-pieces_hold exploring kind class pieces are column fits =
-    held_once (piece_classes pieces) column (has class column)
-    (once_from_apart (piece_classes pieces) are.apart.apart column) (same (has class column) refl)
+pieces_hold exploring kind class pieces are column fits = held_once _ _ _ (once_from_apart _ are.apart.apart _)
+    (same (has class column) refl)
     ∙ sym (let one = times-cons class [] column in omega (arith, one))
   where
     same : (b : Bool) → has class column ≡ b → some_has (piece_classes pieces) column ≡ has class column
     same true h = (are.columns column).1 (h, fits) ∙ sym h
-    same false h = false_from_ne_true (some_has (piece_classes pieces) column)
-        (λ some. false≢true (sym h ∙ ((are.columns column).0 some).0)) ∙ sym h
+    same false h = false_from_ne_true _ (λ some. false≢true (sym h ∙ ((are.columns column).0 some).0)) ∙ sym h
 
 -- a piece of the list
 pub piece_from : (exploring : Exploring) (kind : Kind) (class : Class) (pieces : List Piece)
     → ArePiecesFrom exploring kind class pieces → (n : ℕ) (piece : Piece) → n < length pieces
     → piece ≡ get_or pieces n piece → IsPieceFrom exploring kind class piece
-piece_from exploring kind class pieces are n piece inside is =
-    subst (IsPieceFrom exploring kind class) (sym is) (record {
-      within = λ column h. ((are.columns column).0 (list_any_at (λ c. has c column) (piece_classes pieces) n piece.class
-          long (ap (λ c. has c column) same ∙ h))).0;
-      is = are.each n piece inside;
-      alike = λ r low high. are.alike r low high n piece inside;
-      filled = subst (λ (c : Class). IsTrue (is_filled c)) same (are.apart.filled n piece.class long);
-      wide = subst (λ (c : Class). length (sets_of c) ≡ (tiers_in exploring.frame.now).width) same
-          (are.apart.one_width n piece.class long);
-    })
+piece_from exploring kind class pieces are n piece inside is = rw is (record {
+  within = λ column h. ((are.columns column).0 (list_any_at _ _ n _ long (ap (λ c. has c column) same ∙ h))).0;
+  is = are.each n piece inside;
+  alike = λ r low high. are.alike r low high n piece inside;
+  filled = rw same at (are.apart.filled n piece.class long);
+  wide = rw same at (are.apart.one_width n piece.class long);
+})
   where
     long : n < length (piece_classes pieces)
     long = omega (arith, inside, length-map pieces (λ (p : Piece). p.class))
 
     same : get_or (piece_classes pieces) n piece.class ≡ (get_or pieces n piece).class
-    same = get_or-map (λ (p : Piece). p.class) pieces n piece piece.class inside
+    same = get_or-map _ _ n _ _ inside
 
 -- the moves on the first n of some classes are put behind others
 pub record PushedSoFar {g : Ghosts UnitWeight} {h : Ghosts Count} (exploring : Exploring) (first now : Listed)
@@ -124,16 +117,15 @@ none_pushed exploring first kind arc parts old found = record {
   new_is = sym (append-nil old);
   targets = λ k low high. absurd (omega (arith, low, high));
   classes = refl;
-  each = All-nil (IsTaken exploring.frame.now exploring.first exploring.stage first.kinds.entries kind
-      arc);
+  each = All-nil _;
 }
 
 -- targets of two lists of moves, one after the other
 targets_then : {h : Ghosts Count} (first now next : List (Kind × ℕ)) (xs ys : List (TableArc Count h))
     → AreTargets first now xs → AreTargets now next ys → AreTargets first next (xs ++ ys)
 targets_then first now next xs ys a b k low high = elim (cases_lt k (length now)) [
-  | inl lower ↦ (let was = a k low lower in (was.0, Contains-append_left xs ys was.0 was.1, was.2))
-  | inr upper ↦ (let new = b k upper high in (new.0, Contains-append_right xs ys new.0 new.1, new.2))
+  | inl lower ↦ (let was = a k low lower in (was.0, Contains-append_left xs ys _ was.1, was.2))
+  | inr upper ↦ (let new = b k upper high in (new.0, Contains-append_right xs ys _ new.1, new.2))
 ]
 
 pub one_pushed : {g : Ghosts UnitWeight} {h : Ghosts Count} (exploring : Exploring) (first now next : Listed)
@@ -150,17 +142,11 @@ one_pushed exploring first now next kind arc parts old new n part made so_far in
       stays = λ k other s at. stays k other s (so_far.stays k other s at);
       added = so_far.added ++ made ∷ [];
       new_is = ap (λ xs. xs ++ made ∷ []) so_far.new_is ∙ append_assoc old so_far.added (made ∷ []);
-      targets = targets_then first.kinds.entries now.kinds.entries next.kinds.entries so_far.added (made ∷ [])
-          so_far.targets targets;
-      classes =
-          map-append (λ arc. arc.class) so_far.added (made ∷ [])
-          ∙ ap (λ cs. cs ++ made.class ∷ []) so_far.classes
-          ∙ ap (λ c. take n parts ++ c ∷ []) (class ∙ is)
-          ∙ sym (take_more parts n part inside);
-      each = All-push (IsTaken exploring.frame.now exploring.first exploring.stage next.kinds.entries
-          kind arc) so_far.added made
-          (λ k d l. taken_stays exploring.frame.now exploring.first exploring.stage now.kinds.entries
-          next.kinds.entries stays kind arc (get_or so_far.added k d) (so_far.each k d l)) taken;
+      targets = targets_then _ _ _ _ _ so_far.targets targets;
+      classes = map-append (λ arc. arc.class) so_far.added (made ∷ []) ∙ ap (λ cs. cs ++ made.class ∷ []) so_far.classes
+          ∙ ap (λ c. take n parts ++ c ∷ []) (class ∙ is) ∙ sym (take_more _ n _ inside);
+      each = All-push (IsTaken exploring.frame.now exploring.first exploring.stage next.kinds.entries kind arc)
+          so_far.added made (λ k d l. taken_stays _ _ _ _ _ stays _ _ _ (so_far.each k d l)) taken;
     }
 
 pub all_pushed : {g : Ghosts UnitWeight} {h : Ghosts Count} (exploring : Exploring) (first now : Listed) (kind : Kind)
@@ -225,16 +211,15 @@ pub record TakenSoFar {g : Ghosts UnitWeight} {h : Ghosts Count} (exploring : Ex
 pub none_taken : {g : Ghosts UnitWeight} {h : Ghosts Count} (exploring : Exploring) (first : Listed) (kind : Kind)
     (arcs : List (TableArc UnitWeight g)) (moves : List (TableArc Count h)) → moves ≡ []
     → IsFoundWithin exploring first → TakenSoFar exploring first first kind arcs moves 0
-none_taken {g} {h} exploring first kind arcs moves none found =
-    subst (λ (xs : List (TableArc Count h)). TakenSoFar exploring first first kind arcs xs 0) (sym none) (record {
-      found = found;
-      stays = λ k other s at. at;
-      targets = λ k low high. absurd (omega (arith, low, high));
-      taken = record {
-        each = All-nil (IsTakenFrom exploring.frame.now exploring.first exploring.stage first.kinds.entries kind []);
-        held = λ column fits. refl;
-      };
-    })
+none_taken {g} {h} exploring first kind arcs moves none found = rw none (record {
+  found = found;
+  stays = λ k other s at. at;
+  targets = λ k low high. absurd (omega (arith, low, high));
+  taken = record {
+    each = All-nil _;
+    held = λ column fits. refl;
+  };
+})
 
 pub one_taken : {g : Ghosts UnitWeight} {h : Ghosts Count} (exploring : Exploring) (first now next : Listed)
     (kind : Kind) (arcs : List (TableArc UnitWeight g)) (moves more : List (TableArc Count h)) (n : ℕ)
@@ -265,6 +250,5 @@ pub all_taken : {g : Ghosts UnitWeight} {h : Ghosts Count} (exploring : Explorin
     → TakenSoFar exploring first now kind arcs moves n → n ≡ length arcs → arcs ≡ all
     → AreTakenMoves exploring.frame.now exploring.first exploring.stage now.kinds.entries kind all moves
 all_taken {g} {h} exploring first now kind arcs all moves n so_far last is =
-    let whole : take n arcs ≡ all = ap (λ k. take k arcs) last ∙ take-length arcs ∙ is in
-    subst (λ (xs : List (TableArc UnitWeight g)). AreTakenMoves exploring.frame.now exploring.first exploring.stage
-    now.kinds.entries kind xs moves) whole so_far.taken
+    let whole = ap (λ k. take k arcs) last ∙ take-length arcs ∙ is in
+    rw whole at so_far.taken

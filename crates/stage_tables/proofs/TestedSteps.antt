@@ -21,16 +21,15 @@ module _ (exploring : Exploring) (tests : LastTests) (class : Class) (parts : Li
   -- a part has some columns of the class
   pub part_some : AreSomeOf exploring class part
   part_some = record {
-    within = λ column h.
-        sym (some_from_same parts (class ∷ []) column (are.held column) ∙ or_false (has class column))
-        ∙ list_any_at (λ c. has c column) parts n part inside (ap (λ c. has c column) (sym is) ∙ h);
-    filled = subst (λ (c : Class). IsTrue (is_filled c)) (sym is) (are.pieces.filled n part inside);
+    within = λ column h. sym (some_from_same parts (class ∷ []) column (are.held column) ∙ or_false _) ∙ list_any_at _ _
+        n _ inside (ap (λ c. has c column) (sym is) ∙ h);
+    filled = rw is (are.pieces.filled n part inside);
     wide = ap (λ (c : Class). length (sets_of c)) is ∙ are.pieces.one_width n part inside;
   }
 
   -- and the tests say the same of all of them
   pub part_alike : IsAlike (tested tests) part
-  part_alike = subst (IsAlike (tested tests)) (sym is) (are.alike n part inside)
+  part_alike = rw is (are.alike n part inside)
 
 module _ {g : Ghosts UnitWeight} (exploring : Exploring) (kind : Kind) (tests : LastTests)
     (are : AreLastAt exploring kind tests) (kept : List (TableState UnitWeight g))
@@ -65,12 +64,12 @@ pub piece_of_some : (exploring : Exploring) (next : exploring.before + 1 ≡ exp
     (class part : Class) → AreSomeOf exploring class part → (piece : Piece) → piece.class ≡ part
     → IsPiece exploring.frame.now exploring.stage exploring.stage kind piece → IsPieceFrom exploring kind class piece
 piece_of_some exploring next kind class part some piece same is = record {
-  within = λ column h. some.within column (subst (λ (c : Class). IsTrue (has c column)) same h);
+  within = λ column h. some.within column (rw same at h);
   is = is;
   alike = λ r low high.
       (let last : exploring.stage ≡ r = omega (arith, low, high, exploring.last_alone next) in
       subst (λ (r : ℕ). IsAlike (cost_under exploring.frame.now exploring.stage r kind) piece.class) last
-      (piece_alike exploring.frame.now exploring.stage exploring.stage kind piece is));
-  filled = subst (λ (c : Class). IsTrue (is_filled c)) (sym same) some.filled;
+      (piece_alike _ _ _ _ _ is));
+  filled = rw same some.filled;
   wide = ap (λ (c : Class). length (sets_of c)) same ∙ some.wide;
 }

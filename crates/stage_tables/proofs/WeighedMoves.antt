@@ -35,8 +35,8 @@ module _ {h : Ghosts Count} (target weight : ℕ) (classes : List Class) (old : 
     added = [];
     new_is = sym (append-nil old);
     classes_are = refl;
-    targets = All-nil (λ (arc : TableArc Count h). arc.target ≡ target);
-    weights = All-nil (λ (arc : TableArc Count h). arc.weight.0 ≡ weight);
+    targets = All-nil _;
+    weights = All-nil _;
   }
 
   pub one_move : (mid : List (TableArc Count h)) (n : ℕ) (arc : TableArc Count h)
@@ -47,17 +47,15 @@ module _ {h : Ghosts Count} (target weight : ℕ) (classes : List Class) (old : 
     added = so_far.added ++ arc ∷ [];
     new_is = ap (λ xs. xs ++ arc ∷ []) so_far.new_is ∙ append_assoc old so_far.added (arc ∷ []);
     classes_are = map-append (λ (a : TableArc Count h). a.class) so_far.added (arc ∷ [])
-        ∙ ap (λ cs. cs ++ arc.class ∷ []) so_far.classes_are
-        ∙ ap (λ c. take n classes ++ c ∷ []) is
-        ∙ sym (take_more classes n arc.class inside);
+        ∙ ap (λ cs. cs ++ arc.class ∷ []) so_far.classes_are ∙ ap (λ c. take n classes ++ c ∷ []) is
+        ∙ sym (take_more _ n _ inside);
     targets = All-push (λ (a : TableArc Count h). a.target ≡ target) so_far.added arc so_far.targets at;
     weights = All-push (λ (a : TableArc Count h). a.weight.0 ≡ weight) so_far.added arc so_far.weights weighs;
   }
 
   pub all_moves : (new : List (TableArc Count h)) (n : ℕ) → AddsMoves target weight (take n classes) old new
       → n ≡ length classes → AddsMoves target weight classes old new
-  all_moves new n so_far last = subst (λ (cs : List Class). AddsMoves target weight cs old new)
-      (ap (λ k. take k classes) last ∙ take-length classes) so_far
+  all_moves new n so_far last = rw (ap (λ k. take k classes) last ∙ take-length classes) at so_far
 
 -- ---- parts of a kept move
 
@@ -73,23 +71,20 @@ module _ {g : Ghosts UnitWeight} {h : Ghosts Count} (cost : List Sym → ℕ) (a
     new_is = m.new_is;
     each = λ k d inside.
         let b = get_or m.added k d in
-        let same : get_or classes k d.class ≡ b.class = ap (λ cs. get_or cs k d.class) (sym m.classes_are)
-        ∙ get_or-map (λ (x : TableArc Count h). x.class) m.added k d d.class inside in
+        let same = ap (λ cs. get_or cs k d.class) (sym m.classes_are) ∙ get_or-map _ _ k d _ inside in
         let there : k < length classes = omega
         (arith, inside, ap length m.classes_are, length-map m.added (λ (x : TableArc Count h). x.class)) in
-        let pieces = pieces_added (length (sets_of arc.class)) classes p a in
+        let pieces = pieces_added _ _ p a in
         let passes : (column : List Sym) → IsTrue (has b.class column) → IsTrue (p column) = (λ column held.
-        sym (columns_added (length (sets_of arc.class)) classes p a column)
-        ∙ list_any_at (λ class. has class column) classes k d.class there (ap (λ c. has c column) same ∙ held)) in
+        sym (columns_added _ _ p a _) ∙ list_any_at _ _ k _ there (ap (λ c. has c column) same ∙ held)) in
         record {
           same_target = m.targets k d inside;
           within = λ column held. (on column (passes column held)).0;
           weighs = λ column held. m.weights k d inside ∙ (on column (passes column held)).1;
-          filled = subst (λ (c : Class). IsTrue (is_filled c)) same (pieces.filled k d.class there);
+          filled = rw same at (pieces.filled k d.class there);
           same_width = sym (ap (λ c. length (sets_of c)) same) ∙ pieces.one_width k d.class there;
         };
-    held = λ column. ap (λ cs. times_held cs column) m.classes_are
-        ∙ added_times (length (sets_of arc.class)) classes (λ column. once_if (p column)) a column;
+    held = λ column. ap (λ cs. times_held cs column) m.classes_are ∙ added_times _ _ _ a _;
   }
 
   pub both_weighed : (s t u : List Sym → ℕ) (old mid new : List (TableArc Count h))
@@ -155,9 +150,8 @@ sides_weighed arc test outside inside old mid new a m b n =
 module _ {g : Ghosts UnitWeight} {h : Ghosts Count} (cost : List Sym → ℕ) where
   pub none_weighed : (arcs : List (TableArc UnitWeight g)) (moves : List (TableArc Count h)) → moves ≡ []
       → AreWeighedMoves cost (take 0 arcs) moves
-  none_weighed arcs moves none =
-      subst (λ (xs : List (TableArc Count h)). AreWeighedMoves cost (take 0 arcs) xs) (sym none)
-      (record { each = All-nil (IsWeighedFrom cost (take 0 arcs)); held = λ column. refl })
+  none_weighed arcs moves none = rw none
+      (record { each = All-nil _; held = λ column. refl })
 
   then_weighed : (arcs : List (TableArc UnitWeight g)) (arc : TableArc UnitWeight g) (old new : List (TableArc Count h))
       → AreWeighedMoves cost arcs old → AddsWeighed cost arc (λ column. once_if (has arc.class column)) old new
@@ -192,16 +186,12 @@ module _ {g : Ghosts UnitWeight} {h : Ghosts Count} (cost : List Sym → ℕ) wh
       → AreWeighedMoves cost (take n arcs) old → n < length arcs → arc ≡ get_or arcs n arc
       → AddsWeighed cost arc (λ column. once_if (has arc.class column)) old new
       → AreWeighedMoves cost (take (n + 1) arcs) new
-  one_weighed arcs n arc old new so_far inside is a =
-      subst (λ (xs : List (TableArc UnitWeight g)). AreWeighedMoves cost xs new)
-      (ap (λ x. take n arcs ++ x ∷ []) is ∙ sym (take_more arcs n arc inside))
-      (then_weighed (take n arcs) arc old new so_far a)
+  one_weighed arcs n arc old new so_far inside is a = rw (ap (λ x. take n arcs ++ x ∷ []) is ∙ sym
+      (take_more arcs n arc inside)) at (then_weighed _ _ _ _ so_far a)
 
   pub all_weighed : (arcs : List (TableArc UnitWeight g)) (n : ℕ) (moves : List (TableArc Count h))
       → AreWeighedMoves cost (take n arcs) moves → n ≡ length arcs → AreWeighedMoves cost arcs moves
-  all_weighed arcs n moves so_far last =
-      subst (λ (xs : List (TableArc UnitWeight g)). AreWeighedMoves cost xs moves)
-      (ap (λ k. take k arcs) last ∙ take-length arcs) so_far
+  all_weighed arcs n moves so_far last = rw (ap (λ k. take k arcs) last ∙ take-length arcs) at so_far
 
   -- costs that are the same on the columns of the kept moves
   pub same_weighed : (other : List Sym → ℕ) (arcs : List (TableArc UnitWeight g)) (moves : List (TableArc Count h))

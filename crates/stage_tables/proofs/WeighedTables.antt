@@ -32,9 +32,9 @@ module _ (frame : Frame) (stage : ℕ) {g : Ghosts UnitWeight} (kept : List (Tab
   pub arc_wide : (s : ℕ) (arc : TableArc UnitWeight g) → Contains (moves_at kept s) arc
       → length (sets_of arc.class) ≡ (tiers_in frame).width
   arc_wide s arc here =
-      let have = has-first_column arc.class (by.named.filled s arc here) in
+      let have = has-first_column _ (by.named.filled s arc here) in
       let fits = (by.named.moves s arc (first_column arc.class) here have).fits in
-      sym (same_width (sets_of arc.class) (first_column arc.class) have) ∙ fits.width
+      sym (same_width _ _ have) ∙ fits.width
 
   -- what a test of the costs of a kind tells is what a column costs from the state that it names
   pub test_costs : (s : ℕ) (kind : Kind) (test : Difference) → s < length kept → kind ≡ get_or kinds s kind
@@ -61,7 +61,7 @@ module _ {g : Ghosts UnitWeight} {h : Ghosts Count} (cost : ℕ → List Sym →
   old_move : (s : ℕ) (b : TableArc Count h) → Contains (moves_at states s) b
       → IsWeighedFrom (cost s) (moves_at kept s) b
   old_move s b here =
-      let l = moves_exist states s b here in
+      let l = moves_exist _ s b here in
       All-contains (IsWeighedFrom (cost s) (moves_at kept s)) (moves_at states s) b
       (are.moves s (omega (arith, l, are.count))).each here
 
@@ -70,14 +70,11 @@ module _ {g : Ghosts UnitWeight} {h : Ghosts Count} (cost : ℕ → List Sym →
       → IsTrue (has a.class column)
       → (b : TableArc Count h) × Contains (moves_at states s) b × IsTrue (has b.class column) × (b.target ≡ a.target)
   new_move s a column here held =
-      let l = moves_exist kept s a here in
-      let some = some_from_same (move_classes (moves_at states s)) (move_classes (moves_at kept s)) column
-      ((are.moves s l).held column)
-      ∙ held_on (moves_at kept s) a column here held in
-      let b = move_on (moves_at states s) column some in
-      let from = old_move s b.0 b.1 in
-      let same : from.arc ≡ a = same_move (moves_at kept s) (apart s) from.arc a column from.listed here
-      (from.is.within column b.2) held in
+      let l = moves_exist _ s a here in
+      let some = some_from_same _ _ _ ((are.moves s l).held column) ∙ held_on _ a _ here held in
+      let b = move_on _ _ some in
+      let from = old_move s _ b.1 in
+      let same = same_move _ (apart s) _ a _ from.listed here (from.is.within column b.2) held in
       (b.0, b.1, b.2, from.is.same_target ∙ ap (λ (x : TableArc UnitWeight g). x.target) same)
 
   ends_same : (s : ℕ) → accepting_at states s ≡ accepting_at kept s
@@ -146,22 +143,21 @@ module _ (frame : Frame) (stage : ℕ) {g : Ghosts UnitWeight} {h : Ghosts Count
           ends = λ s l. (let inside : s < length kept = omega (arith, l, are.count) in
               are.ends s inside ∙ by.named.ends s inside);
           moves = λ s b column here held.
-              (let from = old_move cost kept apart states are s b here in
+              (let from = old_move _ _ apart _ are s b here in
               let goes = by.named.moves s from.arc column from.listed (from.is.within column held) in
               record {
                 fits = goes.fits;
                 leads = ap (name_of (names_at frame stage kinds)) from.is.same_target ∙ goes.leads;
               });
-          targets = weighed_targets cost kept apart states are by.named.targets;
-          filled = weighed_filled cost kept apart states are;
+          targets = weighed_targets _ _ apart _ are by.named.targets;
+          filled = weighed_filled _ _ apart _ are;
         };
-        weighed = λ s b column here held. (old_move cost kept apart states are s b here).is.weighs column held;
+        weighed = λ s b column here held. (old_move _ _ apart _ are s b here).is.weighs column held;
         fit = fit;
         accepts = λ T. (
-          words_with states kept (back cost kept apart states are) T,
-          words_with kept states (forth cost kept apart states are) T,
+          words_with _ _ (back _ _ apart _ are) T,
+          words_with _ _ (forth _ _ apart _ are) T,
         );
-        on_runs = λ s l.
-            on_runs_with kept states (forth cost kept apart states are) by.named.filled s
+        on_runs = λ s l. on_runs_with _ _ (forth _ _ apart _ are) by.named.filled s
             (by.on_runs s (omega (arith, l, are.count)));
       }

@@ -34,27 +34,25 @@ pub whole_states : {g : Ghosts UnitWeight} (frame : Frame) (old states : List (T
     (state : TableState UnitWeight g) (arc : TableArc UnitWeight g) → old ≡ [] → states ≡ old ++ state ∷ []
     → state.arcs.items ≡ arc ∷ [] → IsWholeMove frame arc → IsWholeState frame states
 whole_states {g} frame old states state arc none put moves is =
-    subst (λ (xs : List (TableState UnitWeight g)). IsWholeState frame xs)
-    (sym (put ∙ ap (λ (xs : List (TableState UnitWeight g)). xs ++ state ∷ []) none)) (record {
+    rw (put ∙ ap (λ (xs : List (TableState UnitWeight g)). xs ++ state ∷ []) none) (record {
       one = refl;
-      some = (arc, subst (λ (xs : List (TableArc UnitWeight g)). Contains xs arc) (sym moves) (0, omega arith, refl));
+      some = (arc, rw moves (0, omega arith, refl));
       each = each;
     })
   where
     each : (s : ℕ) (a : TableArc UnitWeight g)
         → Contains (moves_at (let one : List (TableState UnitWeight g) = state ∷ [] in one) s) a
         → IsWholeMove frame a
-    each zero a here = subst (IsWholeMove frame) (contains_one arc a
-        (subst (λ (xs : List (TableArc UnitWeight g)). Contains xs a) moves here)) is
+    each zero a here = rw (contains_one arc a
+        (subst (λ (xs : List (TableArc UnitWeight g)). Contains xs a) moves here)) at is
     each (suc s) a here = absurd (omega (arith, here.1))
 
 -- its move is on some column
 pub whole_filled : {g : Ghosts UnitWeight} (frame : Frame) (states : List (TableState UnitWeight g))
     → IsWholeState frame states → ClassesFilled states
-whole_filled frame states whole s arc here =
-    filled_from arc.class (replicate (tiers_in frame).width Outside)
-    ((whole.each s arc here).every (replicate (tiers_in frame).width Outside)
-    (length-replicate (tiers_in frame).width Outside))
+whole_filled frame states whole s arc here = filled_from _ _
+    ((whole.each s arc here).every (replicate (tiers_in frame).width Outside) (length-replicate (tiers_in frame).width
+    Outside))
 
 -- columns cost the same under all of the first constraints where they do under each
 one_more : (n k : ℕ) → k < n → (k + 1 == 0) ≡ false
@@ -64,8 +62,7 @@ same_costs : (frame : Frame) (stage : ℕ) → stage ≤ last_stage (problem_in 
     → ((r : ℕ) → 1 ≤ r → r ≤ stage → cost_under frame stage r kind c ≡ cost_under frame stage r kind d)
     → move_costs (problem_in frame) stage (kind_at_stage frame stage kind) c
     ≡ move_costs (problem_in frame) stage (kind_at_stage frame stage kind) d
-same_costs frame stage within kind c d each =
-    same_number_lists (costs c) (costs d) (long c ∙ sym (long d)) (λ k l. at k l)
+same_costs frame stage within kind c d each = same_number_lists _ _ (long c ∙ sym (long d)) (λ k l. at k l)
   where
     costs : List Sym → List ℕ
     costs column = move_costs (problem_in frame) stage (kind_at_stage frame stage kind) column
@@ -109,21 +106,20 @@ module _ {g : Ghosts UnitWeight} (frame : Frame) (stage : ℕ) (within : stage �
   -- each prefix that moves lead by begins a candidate
   pub whole_goes_on : (kind : Kind) (s : ℕ) → s < length kept → (r : IsReached frame stage kept kind s)
       → (rest : List (List Sym)) × IsCandidate (problem_in frame) (r.prefix ++ rest)
-  whole_goes_on kind s l r = (prefixes_law frame stage r.first r.starts r.prefix).0 (kind, r.leads)
+  whole_goes_on kind s l r = (prefixes_law _ _ _ r.starts _).0 (kind, r.leads)
 
   module _ {h : Ghosts Count} (first : ℕ) (entries : List (Kind × ℕ))
       (found : AreFound frame stage kept entries) (states : List (TableState Count h))
       (taken : AreTaken frame first stage kept entries states) (all : length states ≡ length entries) where
     all_moves : HaveAllMoves (problem_in frame) (names_at frame stage (keys_of entries)) states
     all_moves k column l fits =
-        let a = kind_of_state frame first stage kept entries found states taken all k l in
-        let is = base_is frame first stage kept entries found states taken all k a.0 a.1 a.2 in
+        let a = kind_of_state _ _ _ _ _ found _ taken all k l in
+        let is = base_is _ _ _ _ _ found _ taken all k _ _ a.2 in
         let base : 0
         ≡ base_of (values_of entries) k = omega (arith, is, (found.stands k a.0 a.1 a.2).within, whole.one) in
         let some = whole.some in
-        let here : Contains (moves_at kept (base_of (values_of entries) k)) some.0 = subst
-        (λ s. Contains (moves_at kept s) some.0) base some.1 in
-        columns_new frame first stage kept entries found states taken all k column l
+        let here = rw base at some.1 in
+        columns_new _ _ _ _ _ found _ taken all k _ l
         (some.0, here, (whole.each 0 some.0 some.1).every column fits.width) fits
 
     -- the columns of each move cost the same under each constraint

@@ -22,7 +22,7 @@ module _ {A B : Type 0} (R : A → B → Type 0) where
   zip_from [] [] z k y l e = absurd (omega arith)
   zip_from [] (b ∷ ys) z k y l e = absurd z
   zip_from (a ∷ xs) [] z k y l e = absurd z
-  zip_from (a ∷ xs) (b ∷ ys) z zero y l e = (a, (0, omega arith, refl), subst (R a) e z.0)
+  zip_from (a ∷ xs) (b ∷ ys) z zero y l e = (a, (0, omega arith, refl), rw e at z.0)
   zip_from (a ∷ xs) (b ∷ ys) z (suc k) y l e =
       let rest = zip_from xs ys z.1 k y (omega arith) e in
       (rest.0, (suc rest.1.0, omega (arith, rest.1.1), rest.1.2), rest.2)
@@ -32,7 +32,7 @@ module _ {A B : Type 0} (R : A → B → Type 0) where
   zip_to [] [] z k x l e = absurd (omega arith)
   zip_to [] (b ∷ ys) z k x l e = absurd z
   zip_to (a ∷ xs) [] z k x l e = absurd z
-  zip_to (a ∷ xs) (b ∷ ys) z zero x l e = (b, (0, omega arith, refl), subst (λ a. R a b) e z.0)
+  zip_to (a ∷ xs) (b ∷ ys) z zero x l e = (b, (0, omega arith, refl), rw e at z.0)
   zip_to (a ∷ xs) (b ∷ ys) z (suc k) x l e =
       let rest = zip_to xs ys z.1 k x (omega arith) e in
       (rest.0, (suc rest.1.0, omega (arith, rest.1.1), rest.1.2), rest.2)

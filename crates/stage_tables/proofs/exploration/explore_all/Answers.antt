@@ -10,12 +10,10 @@ use Rattle.stage_tables.proofs.Named.{over_budget}
 use Rattle.stage_tables.proofs.exploration.explore_all.Goals as goal
 
 pub invariant_of-exploring-clause-over_one : goal.invariant_of-exploring-clause-over_one
-invariant_of-exploring-clause-over_one c =
-    whole_over_one c.args.frame.now c.args.stage c.requires.stage (states_of c.in-Ok.whole) c.in-Ok.ensures
+invariant_of-exploring-clause-over_one c = whole_over_one _ _ c.requires.stage _ c.in-Ok.ensures
 
 pub invariant_of-exploring-clause-wide : goal.invariant_of-exploring-clause-wide
-invariant_of-exploring-clause-wide c =
-    whole_wide c.args.frame.now c.args.stage c.requires.stage (states_of c.in-Ok.whole) c.in-Ok.ensures
+invariant_of-exploring-clause-wide c = whole_wide _ _ c.requires.stage _ c.in-Ok.ensures
 
 pub returns-clause-complete : goal.returns-clause-complete
 returns-clause-complete c =

@@ -7,5 +7,5 @@ pub returns-then-eq : goal.returns-then-eq
 returns-then-eq c =
     let found = c.in_ok-found.found in
     let s = c.in_ok-found.field-0-1 in
-    let same : found ≡ c.args.kind.now = (kind_eq-Decides found c.args.kind.now).0 (sym c.eq.ensures ∙ c.if-eq.true) in
+    let same = (kind_eq-Decides _ _).0 (sym c.eq.ensures ∙ c.if-eq.true) in
     (s, sym c.in_ok-found.ensures ∙ ap (λ (x : Kind). Some (x, s)) same)

@@ -8,14 +8,13 @@ use Rattle.stage_tables.proofs.listed.number_of.Goals as goal
 
 -- no two kinds are the same after one is inserted
 inserted_apart : (c : In-Ok) → AreApart c.insert_full.new.self.entries
-inserted_apart c = AllPairs-from_IsDistinct kind_eq-Decides
-    (keys_of c.insert_full.new.self.entries) c.in-Ok.ensures.unique
+inserted_apart c = AllPairs-from_IsDistinct kind_eq-Decides _ c.in-Ok.ensures.unique
 
 -- and the one that is inserted is numbered
 inserted : (c : In-Ok) → IsNumbered c.args.listed.now.kinds.entries c.insert_full.new.self.entries c.in-Ok.found.0
     c.args.kind c.args.state
-inserted c = numbered_as c.args.kind c.args.state c.args.listed.now.kinds.entries _ _ _ _ c.in-Ok.ensures.entries
-    c.in-Ok.ensures.index (numbered c.args.kind c.args.state c.args.listed.now.kinds.entries c.requires.over_one)
+inserted c = numbered_as _ _ _ _ _ _ _ c.in-Ok.ensures.entries
+    c.in-Ok.ensures.index (numbered _ _ _ c.requires.over_one)
 
 pub returns-in-Some-clause-numbered : goal.returns-in-Some-clause-numbered
 returns-in-Some-clause-numbered c =
@@ -30,9 +29,7 @@ returns-then-number-budget-clause-over_apart c over = inserted_apart
     (goal.at.returns-then-number-budget-clause-over_apart c).In-Ok
 
 pub returns-then-number-budget-clause-over_put : goal.returns-then-number-budget-clause-over_put
-returns-then-number-budget-clause-over_put c over =
-    put_beyond c.args.listed.now.kinds.entries c.insert_full.new.self.entries c.in-Ok.found.0 c.args.kind c.args.state
-    c.args.budget
+returns-then-number-budget-clause-over_put c over = put_beyond _ _ _ _ _ _
     (inserted (goal.at.returns-then-number-budget-clause-over_put c).In-Ok) c.requires.few c.if-number-budget.true
 
 pub returns-clause-apart : goal.returns-clause-apart
@@ -42,8 +39,5 @@ pub returns-clause-numbered : goal.returns-clause-numbered
 returns-clause-numbered c = rw c.keep_at_hand.ensures (inserted (goal.at.returns-clause-numbered c).In-Ok)
 
 pub returns-clause-few : goal.returns-clause-few
-returns-clause-few c =
-    rw c.keep_at_hand.ensures
-    (few_numbered c.args.listed.now.kinds.entries c.insert_full.new.self.entries c.in-Ok.found.0 c.args.kind
-    c.args.state
-    c.args.budget (inserted (goal.at.returns-clause-few c).In-Ok) c.requires.few c.if-number-budget.false)
+returns-clause-few c = rw c.keep_at_hand.ensures
+    (few_numbered _ _ _ _ _ _ (inserted (goal.at.returns-clause-few c).In-Ok) c.requires.few c.if-number-budget.false)

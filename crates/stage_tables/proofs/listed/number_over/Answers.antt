@@ -12,5 +12,5 @@ pub returns : goal.returns
 returns c = (
   c.in_ok-kind.kind,
   sym c.in_ok-kind.ensures ∙ ap (λ (x : ℕ). Some (c.in_ok-kind.kind, x)) c.if-over-state.false,
-  sym c.has_bit.ensures ∙ same_bits c.has_bit.result c.args.is_met c.if-has_bit-is_met.false,
+  sym c.has_bit.ensures ∙ same_bits _ _ c.if-has_bit-is_met.false,
 )

@@ -9,7 +9,7 @@ use Rattle.stage_tables.proofs.ranking.all_costs.Goals as goal
 pub loop-place-init : goal.loop-place-init
 loop-place-init c = record {
   all = omega (arith, c.len-number.ensures, c.args.frame.now.grammar.now.constraints.ok);
-  first = none_first (costs_at c.args.frame.now c.args.kind.now c.args.column.now);
+  first = none_first _;
 }
 
 pub loop-place-preserved : goal.loop-place-preserved
@@ -21,14 +21,11 @@ loop-place-preserved c =
     let inv = c.loop-place.invariant in
     let few = few_constraints frame.grammar.now in
     let back : n + 1 - 1 ≡ n = omega arith in
-    let cost : c.cost.result ≡ get_or (costs_at frame kind column) n 0 =
-    c.cost.ensures.cost
-    ∙ ap (λ r. get_or (move_costs (problem_in frame) r (kind_at_stage frame r kind) column) (n + 1 - 1) 0) inv.all
-    ∙ ap (λ i. get_or (costs_at frame kind column) i 0) back in
+    let cost = c.cost.ensures.cost ∙ ap (λ r. get_or (move_costs (problem_in frame) r (kind_at_stage frame r kind)
+    column) (n + 1 - 1) 0) inv.all ∙ ap (λ i. get_or (costs_at frame kind column) i 0) back in
     record {
       all = inv.all;
-      first = next_first (costs_at frame kind column) c.loop-place.parts n c.cost.result inv.first
-          (omega (arith, c.loop-place-test.true, inv.all, few)) cost;
+      first = next_first _ _ n _ inv.first (omega (arith, c.loop-place-test.true, inv.all, few)) cost;
     }
 
 pub returns : goal.returns

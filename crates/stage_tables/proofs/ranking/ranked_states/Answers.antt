@@ -9,21 +9,17 @@ use Rattle.stage_tables.proofs.ranking.ranked_states.Goals as goal
 pub ranked_moves-requires-clause-fits : goal.ranked_moves-requires-clause-fits
 ranked_moves-requires-clause-fits c =
     let found = c.args.found.now in
-    kind_fits c.args.frame.now found.kinds.items
-    (states_of found.table) c.requires c.loop-state.state c.index.result.now
-    (omega (arith, c.loop-state-test.true, c.len-state-end.ensures)) c.index.ensures
+    kind_fits _ _ _ c.requires _ _ (omega (arith, c.loop-state-test.true, c.len-state-end.ensures)) c.index.ensures
 
 pub ranked_moves-requires-clause-columns : goal.ranked_moves-requires-clause-columns
 ranked_moves-requires-clause-columns c =
     let found = c.args.found.now in
-    rw c.arcs.ensures (columns_of c.args.frame.now found.kinds.items
-    (states_of found.table) c.requires c.loop-state.state c.index.result.now
-    (omega (arith, c.loop-state-test.true, c.len-state-end.ensures)) c.index.ensures)
+    rw c.arcs.ensures (columns_of _ _ _ c.requires _ _ (omega (arith, c.loop-state-test.true, c.len-state-end.ensures))
+    c.index.ensures)
 
 pub loop-state-init : goal.loop-state-init
 loop-state-init c = record {
-  made = no_states c.args.frame.now c.args.found.now.kinds.items
-      (states_of c.args.found.now.table) c.new-states.result.items c.new-states.ensures.items;
+  made = no_states _ _ _ _ c.new-states.ensures.items;
 }
 
 pub loop-state-preserved : goal.loop-state-preserved

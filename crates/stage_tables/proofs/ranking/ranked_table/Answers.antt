@@ -23,5 +23,4 @@ pub returns-in-Ok : goal.returns-in-Ok
 returns-in-Ok c =
     let found = c.args.found.now in
     let states = c.in-Ok.states.items in
-    rw c.of_states.ensures (is_ranked c.args.frame.now found.kinds.items
-    (states_of found.table) c.requires states c.in-Ok.ensures)
+    rw c.of_states.ensures (is_ranked _ _ _ c.requires _ c.in-Ok.ensures)

@@ -13,13 +13,11 @@ loop-class-preserved c =
     let inv = c.loop-class.invariant in
     record {
       inside = omega (arith, c.loop-class-test.true);
-      so_far = rw c.in_ok-push.ensures.items
-          (one_move c.args.target c.args.weight c.args.classes.now c.args.moves.now.items c.loop-class.moves.items
-          c.loop-class.class-index _ inv.so_far c.loop-class-test.true c.class-item.is refl refl);
+      so_far = rw c.in_ok-push.ensures.items (one_move _ _ _ _ _ _ _ inv.so_far c.loop-class-test.true c.class-item.is
+          refl refl);
     }
 
 pub returns : goal.returns
 returns c =
     let inv = c.loop-class.invariant in
-    all_moves c.args.target c.args.weight c.args.classes.now c.args.moves.now.items c.loop-class.moves.items
-    c.loop-class.class-index inv.so_far (omega (arith, inv.inside, c.loop-class-test.false))
+    all_moves _ _ _ _ _ _ inv.so_far (omega (arith, inv.inside, c.loop-class-test.false))

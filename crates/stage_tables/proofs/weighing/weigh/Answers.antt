@@ -7,8 +7,7 @@ use Rattle.stage_tables.proofs.weighing.weigh.Goals as goal
 pub of_states-requires-clause-targets : goal.of_states-requires-clause-targets
 of_states-requires-clause-targets c =
     let kept = c.args.kept in
-    weighed_targets (cost_from c.args.frame.now c.args.stage c.args.kinds.now) (states_of kept) kept.disjoint
-    c.in-Ok.states.items c.in-Ok.ensures kept.targets
+    weighed_targets _ _ kept.disjoint _ c.in-Ok.ensures kept.targets
 
 pub of_states-requires-clause-disjoint : goal.of_states-requires-clause-disjoint
 of_states-requires-clause-disjoint c =
@@ -19,17 +18,14 @@ of_states-requires-clause-disjoint c =
 pub of_states-requires-clause-filled : goal.of_states-requires-clause-filled
 of_states-requires-clause-filled c =
     let kept = c.args.kept in
-    weighed_filled (cost_from c.args.frame.now c.args.stage c.args.kinds.now) (states_of kept) kept.disjoint
-    c.in-Ok.states.items c.in-Ok.ensures
+    weighed_filled _ _ kept.disjoint _ c.in-Ok.ensures
 
 pub of_states-requires-clause-one_width : goal.of_states-requires-clause-one_width
 of_states-requires-clause-one_width c =
     let kept = c.args.kept in
-    weighed_width (cost_from c.args.frame.now c.args.stage c.args.kinds.now) (states_of kept) kept.disjoint
-    c.in-Ok.states.items c.in-Ok.ensures kept.one_width
+    weighed_width _ _ kept.disjoint _ c.in-Ok.ensures kept.one_width
 
 pub returns-in-Ok : goal.returns-in-Ok
 returns-in-Ok c =
     let kept = c.args.kept in
-    rw c.of_states.ensures (is_explored c.args.frame.now c.args.stage (states_of kept) kept.disjoint c.args.kinds.now
-    c.requires.kept c.requires.fit c.in-Ok.states.items c.in-Ok.ensures)
+    rw c.of_states.ensures (is_explored _ _ _ kept.disjoint _ c.requires.kept c.requires.fit _ c.in-Ok.ensures)

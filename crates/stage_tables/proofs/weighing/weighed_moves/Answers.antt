@@ -15,13 +15,10 @@ loop-arc-preserved c =
     let inv = c.loop-arc.invariant in
     record {
       inside = omega (arith, c.loop-arc-test.true);
-      so_far = one_weighed (λ column. once_if (differs c.args.test.now column)) c.args.arcs.now
-          c.loop-arc.arc-index c.arc-item.result c.loop-arc.moves.items c.push_weighed.new.moves.items inv.so_far
-          c.loop-arc-test.true c.arc-item.is c.in_ok-push_weighed.ensures;
+      so_far = one_weighed _ _ _ _ _ _ inv.so_far c.loop-arc-test.true c.arc-item.is c.in_ok-push_weighed.ensures;
     }
 
 pub returns : goal.returns
 returns c =
     let inv = c.loop-arc.invariant in
-    all_weighed (λ column. once_if (differs c.args.test.now column)) c.args.arcs.now c.loop-arc.arc-index
-    c.loop-arc.moves.items inv.so_far (omega (arith, inv.inside, c.loop-arc-test.false))
+    all_weighed _ _ _ _ inv.so_far (omega (arith, inv.inside, c.loop-arc-test.false))

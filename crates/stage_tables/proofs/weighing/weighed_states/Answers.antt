@@ -12,29 +12,25 @@ pub cost_test-test-requires-clause-fits : goal.cost_test-test-requires-clause-fi
 cost_test-test-requires-clause-fits c =
     let count = kind_count c.args.frame.now c.args.stage (states_of c.args.kept.now) c.args.kinds.now c.requires.kept in
     let kind = c.index-kinds-state.result in
-    subst (FitsFrame c.args.frame.now c.args.stage) (sym c.index-kinds-state.is)
-    (c.requires.fit c.loop-state.state kind
+    rw c.index-kinds-state.is (c.requires.fit c.loop-state.state kind
     (omega (arith, count, c.loop-state-test.true, c.len-state-end.ensures)))
 
 pub weighed_moves-requires-clause-width : goal.weighed_moves-requires-clause-width
 weighed_moves-requires-clause-width c =
     let kept = states_of c.args.kept.now in
-    rw c.arcs.ensures (λ k d l.
-    arc_wide c.args.frame.now c.args.stage kept c.args.kinds.now c.requires.kept c.loop-state.state
-    (get_or (moves_at kept c.loop-state.state) k d) (Contains-get_or (moves_at kept c.loop-state.state) k d l)
+    rw c.arcs.ensures (λ k d l. arc_wide c.args.frame.now c.args.stage kept c.args.kinds.now c.requires.kept
+    c.loop-state.state (get_or (moves_at kept c.loop-state.state) k d) (Contains-get_or _ k d l)
     ∙ sym c.cost_test-test.ensures.width)
 
 pub weighed_moves-requires-clause-filled : goal.weighed_moves-requires-clause-filled
 weighed_moves-requires-clause-filled c =
     let kept = states_of c.args.kept.now in
-    rw c.arcs.ensures (λ k d l.
-    c.args.kept.now.filled c.loop-state.state (get_or (moves_at kept c.loop-state.state) k d)
-    (Contains-get_or (moves_at kept c.loop-state.state) k d l))
+    rw c.arcs.ensures (λ k d l. c.args.kept.now.filled c.loop-state.state (get_or (moves_at kept c.loop-state.state) k
+    d) (Contains-get_or _ k d l))
 
 pub loop-state-init : goal.loop-state-init
 loop-state-init c = record {
-  made = no_states (cost_from c.args.frame.now c.args.stage c.args.kinds.now) (states_of c.args.kept.now)
-      c.in_ok-states.states.items c.in_ok-states.ensures.items;
+  made = no_states _ _ _ c.in_ok-states.ensures.items;
 }
 
 pub loop-state-preserved : goal.loop-state-preserved
@@ -63,5 +59,4 @@ pub returns : goal.returns
 returns c =
     let last : c.loop-state.state ≡ length (states_of c.args.kept.now) = omega
     (arith, c.loop-state.auto.state-end, c.loop-state-test.false, c.len-state-end.ensures) in
-    subst (AreWeighedStates (cost_from c.args.frame.now c.args.stage c.args.kinds.now) (states_of c.args.kept.now)
-    c.loop-state.states.items) last c.loop-state.invariant.made
+    rw last at c.loop-state.invariant.made

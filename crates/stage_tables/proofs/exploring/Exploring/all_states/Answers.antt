@@ -43,8 +43,7 @@ returns-clause-found c =
 pub returns-clause-few : goal.returns-clause-few
 returns-clause-few c =
     let entries = c.states.new.listed.kinds.entries in
-    let named : c.in-Ok.kinds.items ≡ keys_of entries = c.in-Ok.ensures.items ∙ c.as_slice.ensures
-    ∙ c.keys.ensures.rest in
+    let named = c.in-Ok.ensures.items ∙ c.as_slice.ensures ∙ c.keys.ensures.rest in
     omega (
       arith,
       ap (λ (xs : List Kind). length xs) named,

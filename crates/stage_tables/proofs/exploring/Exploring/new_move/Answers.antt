@@ -8,8 +8,7 @@ number_of-requires-clause-over_one c k s at =
     let exploring = c.args.self.now in
     let found = c.requires.found.found in
     let piece = c.args.piece.now in
-    let reached = piece_reached exploring exploring.kept.now.states.items exploring.kept.now.targets c.args.kind.now
-    c.args.state c.args.arc.now c.requires.arc piece c.requires.piece
+    let reached = piece_reached _ _ exploring.kept.now.targets _ _ _ c.requires.arc _ c.requires.piece
     (found.reached c.requires.over.0 c.args.kind.now c.args.state c.requires.over.1) in
     exploring.over_one piece.target piece.target s c.args.arc.now.target
     (found.reached k piece.target s at) reached refl
@@ -46,30 +45,22 @@ returns-clause-found c =
     let piece = c.args.piece.now in
     let new = c.number_of.new.listed in
     let said = c.in_ok-target.ensures in
-    let stands = piece_stands exploring kept exploring.kept.now.targets c.args.kind.now c.args.state arc
-    c.requires.arc piece c.requires.piece in
-    let reached = piece_reached exploring kept exploring.kept.now.targets c.args.kind.now c.args.state arc
-    c.requires.arc piece c.requires.piece
+    let stands = piece_stands _ _ exploring.kept.now.targets _ _ _ c.requires.arc _ c.requires.piece in
+    let reached = piece_reached _ _ exploring.kept.now.targets _ _ _ c.requires.arc _ c.requires.piece
     (found.reached c.requires.over.0 c.args.kind.now c.args.state c.requires.over.1) in
     record {
-      found = found_numbered exploring.frame.now exploring.stage kept exploring.kept.now.targets
-          c.args.listed.now.kinds.entries new.kinds.entries found said.apart c.in_ok-target.target piece.target
-          arc.target said.numbered stands reached;
+      found = found_numbered _ _ _ exploring.kept.now.targets _ _ found said.apart _ _ _ said.numbered stands reached;
       few = said.few;
     }
 
 pub returns-clause-stays : goal.returns-clause-stays
 returns-clause-stays c =
     let exploring = c.args.self.now in
-    found_stays exploring.frame.now exploring.stage exploring.kept.now.states.items
-    exploring.kept.now.targets c.args.listed.now.kinds.entries c.number_of.new.listed.kinds.entries
-    c.requires.found.found c.in_ok-target.ensures.apart c.in_ok-target.target c.args.piece.now.target
-    c.args.arc.now.target c.in_ok-target.ensures.numbered
+    found_stays _ _ _ exploring.kept.now.targets _ _ c.requires.found.found c.in_ok-target.ensures.apart _ _ _
+    c.in_ok-target.ensures.numbered
 
 pub returns-clause-targets : goal.returns-clause-targets
-returns-clause-targets c =
-    targets_one c.args.listed.now.kinds.entries c.number_of.new.listed.kinds.entries _ c.args.piece.now.target
-    c.args.arc.now.target c.in_ok-target.ensures.numbered
+returns-clause-targets c = targets_one _ _ _ _ _ c.in_ok-target.ensures.numbered
 
 pub returns-clause-taken : goal.returns-clause-taken
 returns-clause-taken c =
@@ -79,7 +70,7 @@ returns-clause-taken c =
       at = c.in_ok-target.ensures.numbered.at;
       within = c.requires.piece.within;
       moves = c.requires.piece.is.moves;
-      weighs = piece_weighs c.args.self.now c.args.kind.now piece c.requires.piece;
+      weighs = piece_weighs _ _ _ c.requires.piece;
       alike = c.requires.piece.alike;
       filled = c.requires.piece.filled;
       wide = c.requires.piece.wide;

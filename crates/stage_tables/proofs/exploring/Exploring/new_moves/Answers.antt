@@ -5,8 +5,7 @@ use Rattle.stage_tables.proofs.exploring.Exploring.new_moves.Goals as goal
 pub loop-arc-init : goal.loop-arc-init
 loop-arc-init c = record {
   inside = omega arith;
-  so_far = none_taken c.args.self.now c.args.listed.now c.args.kind.now c.arcs-arc-items.result.now
-      c.new-moves.result.items c.new-moves.ensures.items c.requires.found;
+  so_far = none_taken _ _ _ _ _ c.new-moves.ensures.items c.requires.found;
 }
 
 pub take-requires-clause-found : goal.take-requires-clause-found
@@ -43,5 +42,4 @@ returns-clause-taken c =
     let inv = c.loop-arc.invariant in
     let last : c.loop-arc.arc-index ≡ length c.arcs-arc-items.result.now = omega
     (arith, inv.inside, c.loop-arc-test.false) in
-    all_taken c.args.self.now c.args.listed.now c.loop-arc.listed c.args.kind.now c.arcs-arc-items.result.now _
-    c.loop-arc.moves.items c.loop-arc.arc-index inv.so_far last c.arcs-arc-items.ensures
+    all_taken _ _ _ _ _ _ _ _ inv.so_far last c.arcs-arc-items.ensures

@@ -24,5 +24,4 @@ returns c =
     let inv = c.loop-piece.invariant in
     let last : c.loop-piece.piece-index ≡ length c.args.pieces.now = omega
     (arith, inv.inside, c.loop-piece-test.false) in
-    all_pieces_parted c.args.self.now c.args.constraint c.args.kind.now c.args.pieces.now c.loop-piece.parts.items
-    c.loop-piece.piece-index inv.so_far last
+    all_pieces_parted _ _ _ _ _ _ inv.so_far last

@@ -7,8 +7,8 @@ use Rattle.stage_tables.proofs.exploring.Exploring.pieces.Goals as goal
 
 pub all_moves-requires-clause-fits : goal.all_moves-requires-clause-fits
 all_moves-requires-clause-fits c =
-    let none : c.args.self.now.stage ≡ 0 = c.if-self-eq0.true in
-    subst (λ stage. FitsFrame c.args.self.now.frame.now stage c.args.kind.now) none c.requires.fits
+    let none = c.if-self-eq0.true in
+    rw none at c.requires.fits
 
 pub returns-then-self-eq0 : goal.returns-then-self-eq0
 returns-then-self-eq0 c =
@@ -19,19 +19,13 @@ returns-then-self-eq0 c =
 pub loop-constraint-init : goal.loop-constraint-init
 loop-constraint-init c =
     let made = c.in_ok-pieces.ensures in
-    first_pieces c.args.self.now c.args.kind.now c.args.class.now c.in_ok-pieces.pieces.items made.pieces made.columns
-    made.each
+    first_pieces _ _ _ _ made.pieces made.columns made.each
 
 pub returns : goal.returns
-returns c =
-    all_constraints c.args.self.now c.args.kind.now c.args.class.now c.loop-constraint.pieces.items
-    c.loop-constraint.constraint c.loop-constraint.invariant (omega (arith, c.loop-constraint-test.false))
+returns c = all_constraints _ _ _ _ _ c.loop-constraint.invariant (omega (arith, c.loop-constraint-test.false))
 
 pub parts_by_cost-requires-clause-wide : goal.parts_by_cost-requires-clause-wide
-parts_by_cost-requires-clause-wide c =
-    rw c.deref.ensures.value
-    (pieces_wide c.args.self.now c.args.kind.now c.args.class.now c.loop-constraint.pieces.items
-    c.loop-constraint.constraint c.loop-constraint.invariant)
+parts_by_cost-requires-clause-wide c = rw c.deref.ensures.value (pieces_wide _ _ _ _ _ c.loop-constraint.invariant)
 
 pub loop-constraint-preserved : goal.loop-constraint-preserved
 loop-constraint-preserved c =

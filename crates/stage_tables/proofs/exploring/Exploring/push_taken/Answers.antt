@@ -6,8 +6,7 @@ use Rattle.stage_tables.proofs.exploring.Exploring.push_taken.Goals as goal
 pub loop-piece-init : goal.loop-piece-init
 loop-piece-init c = record {
   inside = omega arith;
-  so_far = none_pushed c.args.self.now c.args.listed.now c.args.kind.now c.args.arc.now
-      (piece_classes c.args.pieces.now) c.args.moves.now.items c.requires.found;
+  so_far = none_pushed _ _ _ _ _ _ c.requires.found;
 }
 
 pub new_move-requires-clause-found : goal.new_move-requires-clause-found
@@ -20,9 +19,7 @@ new_move-requires-clause-over c = (
 )
 
 pub new_move-requires-clause-piece : goal.new_move-requires-clause-piece
-new_move-requires-clause-piece c =
-    piece_from c.args.self.now c.args.kind.now c.args.arc.now.class c.args.pieces.now c.requires.pieces
-    c.loop-piece.piece-index c.piece-item.result c.loop-piece-test.true c.piece-item.is
+new_move-requires-clause-piece c = piece_from _ _ _ _ c.requires.pieces _ _ c.loop-piece-test.true c.piece-item.is
 
 pub loop-piece-preserved : goal.loop-piece-preserved
 loop-piece-preserved c =
@@ -34,12 +31,9 @@ loop-piece-preserved c =
     record {
       inside = omega (arith, c.loop-piece-test.true);
       so_far = rw (c.push.ensures.items, c.is_err.ensures.negation ∙ ap not c.if-is_err.false)
-          (one_pushed c.args.self.now c.args.listed.now c.loop-piece.listed c.new_move.new.listed c.args.kind.now
-          c.args.arc.now (piece_classes pieces) c.args.moves.now.items c.loop-piece.moves.items c.loop-piece.piece-index
-          piece.class c.in_ok-made.made inv.so_far (omega (arith, long, c.loop-piece-test.true))
-          (ap (λ (p : Piece). p.class) c.piece-item.is ∙ sym (get_or-map (λ (p : Piece). p.class) pieces
-          c.loop-piece.piece-index piece piece.class c.loop-piece-test.true)) done.found done.stays
-          done.targets done.class done.taken);
+          (one_pushed _ _ _ _ _ _ _ _ _ _ _ _ inv.so_far (omega (arith, long, c.loop-piece-test.true))
+          (ap (λ (p : Piece). p.class) c.piece-item.is ∙ sym (get_or-map _ _ _ _ _ c.loop-piece-test.true)) done.found
+          done.stays done.targets done.class done.taken);
     }
 
 pub returns-clause-found : goal.returns-clause-found
@@ -55,6 +49,4 @@ returns-clause-adds c =
     let long = length-map pieces (λ (p : Piece). p.class) in
     let last : c.loop-piece.piece-index
     ≡ length (piece_classes pieces) = omega (arith, long, inv.inside, c.loop-piece-test.false) in
-    all_pushed c.args.self.now c.args.listed.now c.loop-piece.listed c.args.kind.now c.args.arc.now
-    (piece_classes pieces) c.args.moves.now.items c.loop-piece.moves.items c.loop-piece.piece-index inv.so_far last
-    (pieces_hold c.args.self.now c.args.kind.now c.args.arc.now.class pieces c.requires.pieces)
+    all_pushed _ _ _ _ _ _ _ _ _ inv.so_far last (pieces_hold _ _ _ _ c.requires.pieces)

@@ -5,8 +5,7 @@ use Rattle.stage_tables.proofs.exploring.Exploring.push_tested.Goals as goal
 pub loop-part-init : goal.loop-part-init
 loop-part-init c = record {
   inside = omega arith;
-  so_far = none_pushed c.args.self.now c.args.listed.now c.args.kind.now c.args.arc.now c.args.parts.now
-      c.args.moves.now.items c.requires.found;
+  so_far = none_pushed _ _ _ _ _ _ c.requires.found;
 }
 
 pub part_move-requires-clause-found : goal.part_move-requires-clause-found
@@ -35,9 +34,7 @@ loop-part-preserved c =
     record {
       inside = omega (arith, c.loop-part-test.true);
       so_far = rw (c.push.ensures.items, c.is_err.ensures.negation ∙ ap not c.if-is_err.false)
-          (one_pushed c.args.self.now c.args.listed.now c.loop-part.listed c.part_move.new.listed c.args.kind.now
-          c.args.arc.now c.args.parts.now c.args.moves.now.items c.loop-part.moves.items c.loop-part.part-index
-          c.part-item.result c.in_ok-made.made inv.so_far c.loop-part-test.true c.part-item.is done.found done.stays
+          (one_pushed _ _ _ _ _ _ _ _ _ _ _ _ inv.so_far c.loop-part-test.true c.part-item.is done.found done.stays
           done.targets done.class done.taken);
     }
 
@@ -52,6 +49,4 @@ returns-clause-adds c =
     let inv = c.loop-part.invariant in
     let last : c.loop-part.part-index
     ≡ length c.args.parts.now = omega (arith, inv.inside, c.loop-part-test.false) in
-    all_pushed c.args.self.now c.args.listed.now c.loop-part.listed c.args.kind.now c.args.arc.now c.args.parts.now
-    c.args.moves.now.items c.loop-part.moves.items c.loop-part.part-index inv.so_far last
-    (λ column fits. c.requires.parts.held column)
+    all_pushed _ _ _ _ _ _ _ _ _ inv.so_far last (λ column fits. c.requires.parts.held column)

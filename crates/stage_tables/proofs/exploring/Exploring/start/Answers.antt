@@ -4,7 +4,7 @@ use Rattle.stage_tables.proofs.Beginning.{none_apart, put_alone, numbered_alone,
 use Rattle.stage_tables.proofs.exploring.Exploring.start.Goals as goal
 
 pub number_of-requires-clause-apart : goal.number_of-requires-clause-apart
-number_of-requires-clause-apart c = none_apart c.new.result.entries c.new.ensures.empty
+number_of-requires-clause-apart c = none_apart _ c.new.ensures.empty
 
 pub returns-clause-found : goal.returns-clause-found
 returns-clause-found c =
@@ -12,19 +12,14 @@ returns-clause-found c =
     let entries = c.number_of.new.listed.kinds.entries in
     let said = c.in_ok-_start.ensures in
     record {
-      found = first_found exploring.frame.now exploring.stage exploring.kept.now.states.items exploring.kept.now.some
-          entries c.start.result said.apart
-          (numbered_alone c.new.result.entries entries c.in_ok-_start._start c.start.result 0 c.new.ensures.empty
-          said.numbered)
-          (c.start.ensures exploring.stage);
+      found = first_found _ _ _ exploring.kept.now.some _ _ said.apart (numbered_alone _ _ _ _ 0 c.new.ensures.empty
+          said.numbered) (c.start.ensures exploring.stage);
       few = said.few;
     }
 
 pub returns-clause-one : goal.returns-clause-one
-returns-clause-one c =
-    ap (λ xs. length xs)
-    (numbered_alone c.new.result.entries c.number_of.new.listed.kinds.entries c.in_ok-_start._start c.start.result 0
-    c.new.ensures.empty c.in_ok-_start.ensures.numbered)
+returns-clause-one c = ap (λ xs. length xs) (numbered_alone _ _ _ _ 0 c.new.ensures.empty
+    c.in_ok-_start.ensures.numbered)
 
 pub returns-in_err-_start-clause-within : goal.returns-in_err-_start-clause-within
 returns-in_err-_start-clause-within c =
@@ -41,5 +36,5 @@ returns-in_err-_start-clause-within c =
 pub number_of-requires-clause-over_one : goal.number_of-requires-clause-over_one
 number_of-requires-clause-over_one c k s at =
     let long = slice_get_within c.new.result.entries k (c.start.result, s) at in
-    let none : length c.new.result.entries ≡ 0 = ap (λ xs. length xs) c.new.ensures.empty in
+    let none = ap (λ xs. length xs) c.new.ensures.empty in
     absurd (omega (arith, long, none))

@@ -6,9 +6,7 @@ use Rattle.stage_tables.proofs.exploring.Exploring.states.Goals as goal
 pub making-init : goal.making-init
 making-init c = record {
   found = c.requires.found;
-  taken = none_made c.args.self.now.frame.now c.args.self.now.first c.args.self.now.stage
-      c.args.self.now.kept.now.states.items c.args.listed.now.kinds.entries c.new-states.result.items c.requires.one
-      c.new-states.ensures.items;
+  taken = none_made _ _ _ _ _ _ c.requires.one c.new-states.ensures.items;
 }
 
 pub new_moves-requires-clause-found : goal.new_moves-requires-clause-found
@@ -34,8 +32,7 @@ pub making-smaller : goal.making-smaller
 making-smaller c =
     let n = length c.making.states.items in
     let entries = c.making.listed.kinds.entries in
-    let inside : c.len.result < length entries = slice_get_within entries c.len.result _
-    (sym c.entry_at.ensures ∙ c.in-Some.is) in
+    let inside = slice_get_within entries c.len.result _ (sym c.entry_at.ensures ∙ c.in-Some.is) in
     let few : n < c.args.self.now.budget = omega (
       arith,
       inside,
@@ -43,8 +40,7 @@ making-smaller c =
       c.making.states.ok,
       c.making.invariant.found.few,
     ) in
-    rw (c.push.ensures.items, c.is_err.ensures.negation ∙ ap not c.if-is_err.false)
-    (one_more c.args.self.now.budget c.making.states.items _ few)
+    rw (c.push.ensures.items, c.is_err.ensures.negation ∙ ap not c.if-is_err.false) (one_more _ _ _ few)
 
 pub making-preserved : goal.making-preserved
 making-preserved c =

@@ -11,6 +11,5 @@ last_parts-requires-clause-filled c =
     let found = c.requires.found.found in
     let reached = found.reached c.requires.over.0 c.args.kind.now c.args.state c.requires.over.1 in
     let are = c.requires.tests in
-    move_filled exploring.frame.now exploring.before exploring.stage (omega (arith, are.0)) exploring.within
-    exploring.kept.now.states.items (c.requires.left are.0) c.args.kind.now c.args.state reached c.args.arc.now
-    c.requires.arc
+    move_filled exploring.frame.now exploring.before exploring.stage (omega (arith, are.0)) exploring.within _
+    (c.requires.left are.0) _ _ reached _ c.requires.arc

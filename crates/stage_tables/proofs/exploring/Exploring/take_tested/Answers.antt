@@ -3,10 +3,8 @@ use Rattle.stage_tables.proofs.{AtHand.taken_alone, LeftBefore.move_filled}
 use Rattle.stage_tables.proofs.exploring.Exploring.take_tested.Goals as goal
 
 pub returns-clause-adds : goal.returns-clause-adds
-returns-clause-adds c =
-    rw (c.push.ensures.items, c.is_err.ensures.negation ∙ ap not c.if-is_err.false)
-    (taken_alone c.args.self.now c.args.listed.now c.args.kind.now c.args.arc.now c.args.moves.now.items c.in-Some.made
-    c.in-Some.ensures.taken c.in-Some.ensures.class)
+returns-clause-adds c = rw (c.push.ensures.items, c.is_err.ensures.negation ∙ ap not c.if-is_err.false)
+    (taken_alone _ _ _ _ _ _ c.in-Some.ensures.taken c.in-Some.ensures.class)
 
 pub move_at_hand-requires-clause-part : goal.move_at_hand-requires-clause-part
 move_at_hand-requires-clause-part c =
@@ -17,7 +15,6 @@ move_at_hand-requires-clause-part c =
     record {
       within = λ column h. h;
       filled = move_filled exploring.frame.now exploring.before exploring.stage (omega (arith, are.0)) exploring.within
-          exploring.kept.now.states.items (c.requires.left are.0) c.args.kind.now c.args.state reached c.args.arc.now
-          c.requires.arc;
+          _ (c.requires.left are.0) _ _ reached _ c.requires.arc;
       wide = exploring.wide c.args.state c.args.arc.now c.requires.arc;
     }

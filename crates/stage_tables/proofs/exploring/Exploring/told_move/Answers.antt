@@ -29,6 +29,5 @@ piece-piece-requires-clause-costed c =
     c.requires.part c.requires.alike
 
 pub new_move-requires-clause-piece : goal.new_move-requires-clause-piece
-new_move-requires-clause-piece c =
-    piece_of_some c.args.self.now c.requires.tests.0 c.args.kind.now c.args.arc.now.class c.args.class.now
-    c.requires.part c.piece-piece.result c.piece-piece.ensures.class c.piece-piece.ensures.piece
+new_move-requires-clause-piece c = piece_of_some _ c.requires.tests.0 _ _ _ c.requires.part _
+    c.piece-piece.ensures.class c.piece-piece.ensures.piece

@@ -60,7 +60,7 @@ module _ (problem : Problem) (budget : ℕ) where
 
 module _ (g : GrammarValue) (form : List ℕ) where
   pub one_form : (p q : Problem) → IsAsked g form p → IsAsked g form q → p.form ≡ q.form
-  one_form p q a b = one_reading (grammar_inputs g) g.letters form p.form q.form a.form b.form
+  one_form p q a b = one_reading (grammar_inputs g) g.letters form _ _ a.form b.form
 
   pub asked_alike : (p q : Problem) → IsAsked g form p → IsAsked g form q → AreAskedAlike p q
   asked_alike p q a b = record {
@@ -78,25 +78,22 @@ module _ (g : GrammarValue) (form : List ℕ) where
   refused_form x P r o = not_refused (grammar_inputs g) g.letters form o.problem.form r.value o.is_asked.form r.fact
 
   pub one_refused_form : (x y : Finding) → RefusesForm g form x → RefusesForm g form y → x ≡ y
-  one_refused_form =
-      one_of (no_form 2) (IsRefusedFor (grammar_inputs g) g.letters form)
-      (λ e f c d. ap (no_form 2) (one_refusal (grammar_inputs g) g.letters form e f c d))
+  one_refused_form = one_of _ _ (λ e f c d. ap (no_form 2) (one_refusal (grammar_inputs g) g.letters form e f c d))
 
 module _ (g : GrammarValue) (form : List ℕ) (budget : ℕ) where
   -- over the budget by another reading of the grammar and the word
   over_by : (stage : ℕ) (o : IsOverBudget g form budget stage) (problem : Problem) → IsAsked g form problem
       → IsFirstOver problem budget stage
-  over_by stage o problem a =
-      first_over_alike budget stage o.problem problem (asked_alike g form o.problem problem o.is_asked a) o.over
+  over_by stage o problem a = first_over_alike _ _ _ _ (asked_alike g _ _ _ o.is_asked a) o.over
 
   abbrev AreWithin : Type 0
   AreWithin = OnProblem (λ problem. AreAllWithin problem budget) g form
 
   never_both : (stage : ℕ) → IsOverBudget g form budget stage → AreWithin → ⊥
-  never_both stage o w = over_within w.problem budget stage (over_by stage o w.problem w.is_asked) w.fact
+  never_both stage o w = over_within _ _ _ (over_by _ o _ w.is_asked) w.fact
 
   one_over : (stage other : ℕ) → IsOverBudget g form budget stage → IsOverBudget g form budget other → stage ≡ other
-  one_over stage other o p = one_stage p.problem budget stage other (over_by stage o p.problem p.is_asked) p.over
+  one_over stage other o p = one_stage _ _ _ _ (over_by _ o _ p.is_asked) p.over
 
   -- ---- in `generate` and `show`
 
@@ -107,14 +104,11 @@ module _ (g : GrammarValue) (form : List ℕ) (budget : ℕ) where
   Within x = (x ≡ ready) × AreWithin
 
   pub one_in_budget : (x y : Finding) → Over x ⊎ Within x → Over y ⊎ Within y → x ≡ y
-  one_in_budget =
-      one_choice Over Within
-      (one_of (over_budget 0) (IsOverBudget g form budget) (λ r s o p. ap (over_budget 0) (one_over r s o p)))
-      (λ v w o i. never_both o.value o.fact i.1)
-      (λ v w i j. i.0 ∙ sym j.0)
+  one_in_budget = one_choice _ _ (one_of _ _ (λ r s o p. ap (over_budget 0) (one_over r s o p))) (λ v w o i. never_both
+      _ o.fact i.1) (λ v w i j. i.0 ∙ sym j.0)
 
   answer_steps : (x : Finding) → FindsForAnswer g form budget x → RefusesForm g form x ⊎ (Over x ⊎ Within x)
-  answer_steps (no_form word cause) a = inl (form_refused g form word cause a)
+  answer_steps (no_form word cause) a = inl (form_refused g form _ _ a)
   answer_steps (over_budget entry stage) a =
       inr (inl (record { value = stage; is = ap (λ e. over_budget e stage) a.0; fact = a.1 }))
   answer_steps ready a =
@@ -140,7 +134,7 @@ module _ (g : GrammarValue) (form : List ℕ) (budget : ℕ) where
 
   pub only_over : (stage : ℕ) → IsOverBudget g form budget stage → (x : Finding) → FindsForAnswer g form budget x
       → x ≡ over_budget 0 stage
-  only_over stage o x a = for_answer x (over_budget 0 stage) a (refl, o)
+  only_over stage o x a = for_answer x _ a (refl, o)
 
   -- ---- in `once`
 
@@ -154,31 +148,23 @@ module _ (g : GrammarValue) (form : List ℕ) (budget : ℕ) where
   OnceWithin x = (x ≡ ready) × OnProblem (λ problem. AreWholeKindsWithin problem budget) g form
 
   once_steps : (x : Finding) → FindsForOnce g form budget x → RefusesForm g form x ⊎ (OnceOver x ⊎ OnceWithin x)
-  once_steps (no_form word cause) a = inl (form_refused g form word cause a)
+  once_steps (no_form word cause) a = inl (form_refused g form _ _ a)
   once_steps (over_budget entry stage) a =
       inr (inl (record { value = stage; is = ap (λ e. over_budget e stage) a.0; fact = a.1 }))
   once_steps ready a = inr (inr (refl, a))
   once_steps other a = absurd a
 
   one_once_over : (r s : ℕ) → IsOnceOver r → IsOnceOver s → r ≡ s
-  one_once_over r s o p =
-      o.fact.0 ∙ same_stages o.problem p.problem (asked_alike g form o.problem p.problem o.is_asked p.is_asked)
-      ∙ sym p.fact.0
+  one_once_over r s o p = o.fact.0 ∙ same_stages _ _ (asked_alike g _ _ _ o.is_asked p.is_asked) ∙ sym p.fact.0
 
   once_apart : (x y : Finding) → OnceOver x → OnceWithin y → ⊥
-  once_apart x y o i =
-      whole_over_within budget o.fact.problem i.1.problem
-      (asked_alike g form o.fact.problem i.1.problem o.fact.is_asked i.1.is_asked) o.fact.fact.1 i.1.fact
+  once_apart x y o i = whole_over_within _ _ _ (asked_alike g _ _ _ o.fact.is_asked i.1.is_asked) o.fact.fact.1 i.1.fact
 
   form_apart : (x y : Finding) → RefusesForm g form x → OnceOver y ⊎ OnceWithin y → ⊥
-  form_apart x y r (inl o) =
-      refused_form g form x (λ problem. (o.value ≡ last_stage problem) × AreWholeKindsOver problem budget) r o.fact
-  form_apart x y r (inr i) = refused_form g form x (λ problem. AreWholeKindsWithin problem budget) r i.1
+  form_apart x y r (inl o) = refused_form g _ x _ r o.fact
+  form_apart x y r (inr i) = refused_form g _ x _ r i.1
 
   pub for_once : (x y : Finding) → FindsForOnce g form budget x → FindsForOnce g form budget y → x ≡ y
-  for_once x y a b =
-      one_choice (RefusesForm g form) (λ z. OnceOver z ⊎ OnceWithin z) (one_refused_form g form) form_apart
-      (one_choice OnceOver OnceWithin
-      (one_of (over_budget 0) IsOnceOver (λ r s o p. ap (over_budget 0) (one_once_over r s o p)))
-      once_apart (λ v w i j. i.0 ∙ sym j.0))
-      x y (once_steps x a) (once_steps y b)
+  for_once x y a b = one_choice _ _ (one_refused_form g form) form_apart
+      (one_choice _ _ (one_of _ _ (λ r s o p. ap (over_budget 0) (one_once_over r s o p))) once_apart (λ v w i j. i.0
+      ∙ sym j.0)) x y (once_steps x a) (once_steps y b)

@@ -44,20 +44,16 @@ module _ (g : GrammarValue) (bytes : List ℕ) where
   steps other f = absurd f
 
   one_no_answer : (x y : Finding) → NoAnswer x → NoAnswer y → x ≡ y
-  one_no_answer =
-      one_of (λ (at : At). no_answer at.line at.cause) (λ at. IsAnswerFile g bytes (Err at))
-      (λ a b p q. ap (λ r. no_answer (cause_in r a).line (cause_in r a).cause)
-      (one_reading g bytes (Err a) (Err b) p q))
+  one_no_answer = one_of _ _ (λ a b p q. ap (λ r. no_answer (cause_in r a).line (cause_in r a).cause)
+      (one_reading g _ _ _ p q))
 
   read_apart : (x y : Finding) → NoAnswer x → Read y → ⊥
-  read_apart x y n r = false≢true (ap is_read (one_reading g bytes (Err n.value) (Ok r.1.0) n.fact r.1.1))
+  read_apart x y n r = false≢true (ap is_read (one_reading g _ _ _ n.fact r.1.1))
 
   long_apart : (x y : Finding) → Long x → NotLong y → ⊥
-  long_apart x y l (inl n) = too_long 268435456 (length bytes) l.1 n.fact.within
-  long_apart x y l (inr r) = too_long 268435456 (length bytes) l.1 r.1.1.within
+  long_apart x y l (inl n) = too_long _ _ l.1 n.fact.within
+  long_apart x y l (inr r) = too_long _ _ l.1 r.1.1.within
 
   pub for_check : (x y : Finding) → FindsForCheck g bytes x → FindsForCheck g bytes y → x ≡ y
-  for_check x y a b =
-      one_choice Long NotLong (λ v w l m. l.0 ∙ sym m.0) long_apart
-      (one_choice NoAnswer Read one_no_answer read_apart (λ v w r s. r.0 ∙ sym s.0))
-      x y (steps x a) (steps y b)
+  for_check x y a b = one_choice _ _ (λ v w l m. l.0 ∙ sym m.0) long_apart (one_choice _ _ one_no_answer read_apart
+      (λ v w r s. r.0 ∙ sym s.0)) x y (steps x a) (steps y b)

@@ -31,19 +31,17 @@ module _ {O A : Type 0} {sink : Ghosts O} {old new : O} (writes : List ℕ
 module _ (g : Grammar) where
   module _ (bytes : List ℕ) (within : length bytes ≤ 268435456) (shape : Shape) (of_grammar : IsShapeOf g shape) where
     refused_for_check : (x : Finding) → RefusesAnswer shape bytes x → FindsForCheck (value_of g) bytes x
-    refused_for_check x r = subst (FindsForCheck (value_of g) bytes) (sym r.is) (record {
+    refused_for_check x r = rw r.is (record {
       within = within;
       shape = shape;
-      of_grammar = shape_for g shape of_grammar;
+      of_grammar = shape_for g _ of_grammar;
       is = r.fact;
     })
 
     -- bytes that are refused have no verdict
     pub not_judged : (at : At) → answer_of shape bytes ≡ Err at → IsJudged (value_of g) bytes Yes → ⊥
-    not_judged at refused j =
-        false≢true (ap is_read (one_reading (value_of g) bytes (Err at) (Ok (answer_value j.reading.shape j.answer))
-        (record { within = within; shape = shape; of_grammar = shape_for g shape of_grammar; is = refused })
-        (record {
+    not_judged at refused j = false≢true (ap is_read (one_reading _ _ _ _
+        (record { within = within; shape = shape; of_grammar = shape_for g _ of_grammar; is = refused }) (record {
           within = within;
           shape = j.reading.shape;
           of_grammar = j.reading.of_grammar;
@@ -53,7 +51,7 @@ module _ (g : Grammar) where
     pub no_answer_read : (t : SinkChange) → IsUntouched t → (s : Status) → IsRefusal (RefusesAnswer shape bytes) s
         → IsCheckStep (value_of g) bytes t s
     no_answer_read t e s r = inl (inl (
-      refusal_weaker (RefusesAnswer shape bytes) (FindsForCheck (value_of g) bytes) refused_for_check s r,
+      refusal_weaker _ _ refused_for_check s r,
       e,
     ))
 
@@ -65,7 +63,7 @@ module _ (g : Grammar) where
       reading : IsReading (value_of g) bytes answer (asked_by g answer)
       reading = record {
         shape = shape;
-        of_grammar = shape_for g shape of_grammar;
+        of_grammar = shape_for g _ of_grammar;
         read = read;
         is_asked = record { tiers = sym (same_tiers g); constraints = sym (same_requirements g); form = refl };
       }

@@ -15,9 +15,8 @@ module _ (problem : Problem) (cs ds : List Constraint) (alike : requirements_see
       → IsOptimalFor (with_constraints problem ds) r T
   optimal_alike r T o = record {
     candidate = same T o.candidate;
-    least = λ U c.
-        subst (λ w. IsAtMost (take r (vec ds T)) (take r w)) (same_vec problem cs ds alike U)
-        (subst (λ v. IsAtMost (take r v) (take r (vec cs U))) (same_vec problem cs ds alike T) (o.least U (back U c)));
+    least = λ U c. rw (same_vec problem cs ds alike U) at (rw (same_vec problem cs ds alike T)
+        at (o.least U (back U c)));
   }
     where
       same : (U : List (List Sym)) → IsCandidate (with_constraints problem cs) U
@@ -34,9 +33,9 @@ module _ (problem : Problem) (cs ds : List Constraint) (alike : requirements_see
     candidate = p.candidate;
     columns = p.columns;
     passes = record {
-      optimal = optimal_alike r p.candidate p.passes.optimal;
+      optimal = optimal_alike r _ p.passes.optimal;
       within = p.passes.within;
-      of_kind = sym (same_kind problem cs ds alike s (take p.columns p.candidate)) ∙ p.passes.of_kind;
+      of_kind = sym (same_kind problem cs ds alike s _) ∙ p.passes.of_kind;
     };
   }
 
@@ -47,20 +46,20 @@ module _ (problem : Problem) (budget : ℕ) (cs ds : List Constraint)
   kinds_alike r ks a = record {
     ascending = a.ascending;
     members = λ k. (
-      (λ m. passed_alike problem cs ds alike (r - 1) r k ((a.members k).0 m)),
-      (λ p. (a.members k).1 (passed_alike problem ds cs (sym alike) (r - 1) r k p)),
+      (λ m. passed_alike problem cs ds alike _ r k ((a.members k).0 m)),
+      (λ p. (a.members k).1 (passed_alike problem ds cs (sym alike) _ r k p)),
     );
   }
 
   over_alike : (r : ℕ) → IsOver (with_constraints problem cs) budget r → IsOver (with_constraints problem ds) budget r
-  over_alike r o = record { kinds = o.kinds; are = kinds_alike r o.kinds o.are; more = o.more }
+  over_alike r o = record { kinds = o.kinds; are = kinds_alike r _ o.are; more = o.more }
 
 few_alike : (problem : Problem) (budget : ℕ) (cs ds : List Constraint)
     → requirements_seen cs ≡ requirements_seen ds → (r : ℕ)
     → HasFewKinds (with_constraints problem cs) budget r → HasFewKinds (with_constraints problem ds) budget r
 few_alike problem budget cs ds alike r h = record {
   kinds = h.kinds;
-  are = kinds_alike problem budget cs ds alike r h.kinds h.are;
+  are = kinds_alike problem budget cs ds alike r _ h.are;
   few = h.few;
 }
 
@@ -72,29 +71,28 @@ within_alike problem budget cs ds alike r w = λ ks a. w ks (kinds_alike problem
 -- ---- problems that are asked alike
 
 pub same_stages : (p q : Problem) → AreAskedAlike p q → last_stage p ≡ last_stage q
-same_stages p q alike = same_count p.constraints q.constraints alike.constraints
+same_stages p q alike = same_count _ _ alike.constraints
 
 module _ (budget : ℕ) where
   pub first_over_alike : (r : ℕ) (p q : Problem) → AreAskedAlike p q → IsFirstOver p budget r → IsFirstOver q budget r
-  first_over_alike r = by_constraints (λ problem. IsFirstOver problem budget r) (λ problem cs ds alike o. record {
-    stage = subst (λ n. r ≤ n) (same_count cs ds alike) o.stage;
-    over = over_alike problem budget cs ds alike r o.over;
-    before = λ s l. within_alike problem budget cs ds alike s (o.before s l);
-    listed = λ s l. few_alike problem budget cs ds alike s (o.listed s l);
+  first_over_alike r = by_constraints _ (λ problem cs ds alike o. record {
+    stage = rw (same_count cs ds alike) at o.stage;
+    over = over_alike problem _ cs ds alike r o.over;
+    before = λ s l. within_alike problem _ cs ds alike s (o.before s l);
+    listed = λ s l. few_alike problem _ cs ds alike s (o.listed s l);
   })
 
   pub all_within_alike : (p q : Problem) → AreAskedAlike p q → AreAllWithin p budget → AreAllWithin q budget
-  all_within_alike = by_constraints (λ problem. AreAllWithin problem budget) (λ problem cs ds alike w r l.
-      within_alike problem budget cs ds alike r (w r (subst (λ n. r ≤ n) (sym (same_count cs ds alike)) l)))
+  all_within_alike = by_constraints _ (λ problem cs ds alike w r l.
+      within_alike problem _ cs ds alike r (w r (rw (same_count cs ds alike) l)))
 
   whole_kind_alike : (k : PrefixKind) (p q : Problem) → AreAskedAlike p q → IsWholeKind p k → IsWholeKind q k
-  whole_kind_alike k = by_constraints (λ problem. IsWholeKind problem k) (λ problem cs ds alike w.
-      subst (λ n. IsPassed (with_constraints problem ds) 0 n k) (same_count cs ds alike)
-      (passed_alike problem cs ds alike 0 (length cs) k w))
+  whole_kind_alike k = by_constraints _ (λ problem cs ds alike w. rw (same_count cs ds alike) at (passed_alike problem
+      cs ds alike 0 _ k w))
 
   -- there are not both more kinds under all constraints than the budget and no more
   pub whole_over_within : (p q : Problem) → AreAskedAlike p q → AreWholeKindsOver p budget
       → AreWholeKindsWithin q budget → ⊥
   whole_over_within p q alike o w =
-      let each = All-weaker (IsWholeKind p) (IsWholeKind q) (λ k. whole_kind_alike k p q alike) o.kinds o.each in
+      let each = All-weaker _ _ (λ k. whole_kind_alike k p q alike) _ o.each in
       omega (arith, o.more, w o.kinds o.distinct each)

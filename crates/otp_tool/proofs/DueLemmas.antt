@@ -17,9 +17,9 @@ use Rattle.otp_tool.proofs.OutcomeLemmas.{nothing_taken}
 same : (words : List (List ℕ)) (held : List ℕ → Option (List ℕ)) (x y : Finding) → IsTold words held x
     → IsBehind words held y → y ≡ x
 same words held x y t b =
-    let command : b.command ≡ t.command = one_command words b.command t.command b.reads.are t.are in
-    let reads = subst (λ (k : Command). MayRead words held k b.bytes b.second) command b.reads in
-    t.only b.bytes b.second reads y (subst (λ (k : Command). Finds k b.bytes b.second y) command b.finds)
+    let command = one_command _ _ _ b.reads.are t.are in
+    let reads = rw command at b.reads in
+    t.only b.bytes b.second reads y (rw command at b.finds)
 
 -- whether a finding is that nothing is refused
 abbrev IsReady : Finding → Type 0
@@ -39,54 +39,52 @@ module _ (words : List (List ℕ)) (c : Change) where
 
   due_long : (word : ℕ) → IsTooLong words c.held word → (x : Finding) → IsTold words c.held x
       → TooLong word ≡ answer_to x
-  due_long word (inl l) x t = ap TooLong l.0 ∙ ap answer_to (same words c.held x long_file t l.1)
-  due_long word (inr b) x t = ap answer_to (same words c.held x (long_second word) t b)
+  due_long word (inl l) x t = ap TooLong l.0 ∙ ap answer_to (same _ _ x _ t l.1)
+  due_long word (inr b) x t = ap answer_to (same _ _ x _ t b)
 
   pub due : (s : Status) → IsOutcome words c s → (x : Finding) → (x ≡ ready → ⊥) → IsTold words c.held x
       → Stands (answer_to x) s
-  due Done o x n t = absurd (n (sym (same words c.held x ready t o.0)))
-  due No o x n t = absurd (n (sym (same words c.held x ready t o.0)))
+  due Done o x n t = absurd (n (sym (same _ _ x _ t o.0)))
+  due No o x n t = absurd (n (sym (same _ _ x _ t o.0)))
   due Usage o x n t = absurd (no_usage x t o.0)
-  due (GrammarRefused word line cause) o x n t =
-      inl (ap (λ (w : ℕ). GrammarRefused w line cause) o.0
-      ∙ ap answer_to (same words c.held x (no_grammar line cause) t o.1))
-  due (FormRefused word cause) o x n t = inl (ap answer_to (same words c.held x (no_form word cause) t o.0))
+  due (GrammarRefused word line cause) o x n t = inl (ap (λ (w : ℕ). GrammarRefused w line cause) o.0 ∙ ap answer_to
+      (same _ _ x _ t o.1))
+  due (FormRefused word cause) o x n t = inl (ap answer_to (same _ _ x _ t o.0))
   due (LexiconRefused word cause) o x n t =
-      inl (ap (λ (w : ℕ). LexiconRefused w cause) o.0 ∙ ap answer_to (same words c.held x (no_lexicon cause) t o.1))
-  due (AnswerRefused word line cause) o x n t =
-      inl (ap (λ (w : ℕ). AnswerRefused w line cause) o.0
-      ∙ ap answer_to (same words c.held x (no_answer line cause) t o.1))
-  due (Budget entry stage) o x n t = inl (ap answer_to (same words c.held x (over_budget entry stage) t o.0))
+      inl (ap (λ (w : ℕ). LexiconRefused w cause) o.0 ∙ ap answer_to (same _ _ x _ t o.1))
+  due (AnswerRefused word line cause) o x n t = inl (ap (λ (w : ℕ). AnswerRefused w line cause) o.0 ∙ ap answer_to
+      (same _ _ x _ t o.1))
+  due (Budget entry stage) o x n t = inl (ap answer_to (same _ _ x _ t o.0))
   due (ReadFault word) o x n t = inr (inr (word, refl))
-  due WriteFault o x n t = absurd (n (sym (same words c.held x ready t o.0)))
+  due WriteFault o x n t = absurd (n (sym (same _ _ x _ t o.0)))
   due NoMemory o x n t = inr (inl refl)
   due (RowsRefused word row cause) o x n t =
-      inl (ap (λ (w : ℕ). RowsRefused w row cause) o.0 ∙ ap answer_to (same words c.held x (no_rows row cause) t o.1))
-  due (TooLong word) o x n t = inl (due_long word o.0 x t)
+      inl (ap (λ (w : ℕ). RowsRefused w row cause) o.0 ∙ ap answer_to (same _ _ x _ t o.1))
+  due (TooLong word) o x n t = inl (due_long _ o.0 x t)
 
   not_ready : (x : Finding) → IsTold words c.held ready → IsBehind words c.held x → IsReady x
-  not_ready x t b = subst IsReady (sym (same words c.held ready x t b)) tt
+  not_ready x t b = rw (same words c.held ready x t b) tt
 
   not_long : (word : ℕ) → IsTold words c.held ready → IsTooLong words c.held word → ⊥
-  not_long word t (inl l) = absurd (not_ready long_file t l.1)
-  not_long word t (inr b) = absurd (not_ready (long_second word) t b)
+  not_long word t (inl l) = absurd (not_ready _ t l.1)
+  not_long word t (inr b) = absurd (not_ready _ t b)
 
   pub complete : (s : Status) → IsOutcome words c s → IsTold words c.held ready
       → ((word : ℕ) → HasReadFault words c.held c.faults_before c.faults_after word → ⊥)
       → (Rose c.taking.before c.taking.after → ⊥) → (s ≡ Done) ⊎ ((s ≡ No) ⊎ (s ≡ NoMemory))
   complete Done o t r w = inl refl
   complete No o t r w = inr (inl refl)
-  complete Usage o t r w = absurd (no_usage ready t o.0)
-  complete (GrammarRefused word line cause) o t r w = absurd (not_ready (no_grammar line cause) t o.1)
-  complete (FormRefused word cause) o t r w = absurd (not_ready (no_form word cause) t o.0)
-  complete (LexiconRefused word cause) o t r w = absurd (not_ready (no_lexicon cause) t o.1)
-  complete (AnswerRefused word line cause) o t r w = absurd (not_ready (no_answer line cause) t o.1)
-  complete (Budget entry stage) o t r w = absurd (not_ready (over_budget entry stage) t o.0)
+  complete Usage o t r w = absurd (no_usage _ t o.0)
+  complete (GrammarRefused word line cause) o t r w = absurd (not_ready _ t o.1)
+  complete (FormRefused word cause) o t r w = absurd (not_ready _ t o.0)
+  complete (LexiconRefused word cause) o t r w = absurd (not_ready _ t o.1)
+  complete (AnswerRefused word line cause) o t r w = absurd (not_ready _ t o.1)
+  complete (Budget entry stage) o t r w = absurd (not_ready _ t o.0)
   complete (ReadFault word) o t r w = absurd (r word o.0)
   complete WriteFault o t r w = absurd (w o.2)
   complete NoMemory o t r w = inr (inr refl)
-  complete (RowsRefused word row cause) o t r w = absurd (not_ready (no_rows row cause) t o.1)
-  complete (TooLong word) o t r w = absurd (not_long word t o.0)
+  complete (RowsRefused word row cause) o t r w = absurd (not_ready _ t o.1)
+  complete (TooLong word) o t r w = absurd (not_long _ t o.0)
 
   stays : (s : Status) → IsOutcome words c s → IsBeforeWriting s → IsUntouched c.taking
   stays Usage o b = o.1
@@ -101,7 +99,7 @@ module _ (words : List (List ℕ)) (c : Change) where
   stays other o b = absurd b
 
   pub untouched : (s : Status) → IsOutcome words c s → IsBeforeWriting s → c.taking.new ≡ c.taking.old
-  untouched s o b = nothing_taken c.taking (stays s o b)
+  untouched s o b = nothing_taken _ (stays s o b)
 
   pub no_fault_counted : (s : Status) → IsOutcome words c s → IsBeforeWriting s → c.taking.after ≡ c.taking.before
   no_fault_counted s o b = ap (λ (now : Option (List ℕ) × ℕ). now.1) (stays s o b)

@@ -66,29 +66,25 @@ module _ (command : Command) (bytes second : List ℕ) where
 
   both_in : (x y : Finding) → InGrammar x → InGrammar y → x ≡ y
   both_in x y a b =
-      let same = same_grammar bytes b.grammar a.grammar b.file a.file in
-      in_grammar command a.grammar second x y a.fact (subst (λ g. FindsIn command g second y) same b.fact)
+      let same = same_grammar _ _ _ b.file a.file in
+      in_grammar _ _ _ x y a.fact (rw same at b.fact)
 
   refused_in : (x y : Finding) → NoGrammar x → InGrammar y → ⊥
   refused_in x y n i = false≢true (ap is_ok (sym n.fact.1 ∙ i.file.tells))
 
   one_refused : (x y : Finding) → NoGrammar x → NoGrammar y → x ≡ y
-  one_refused =
-      one_of (λ (at : At). no_grammar at.line at.cause) (λ at. (length bytes ≤ 65536) × (grammar_of bytes ≡ Err at))
-      (λ a b e f. ap (λ r. no_grammar (err_of r a).line (err_of r a).cause) (sym e.1 ∙ f.1))
+  one_refused = one_of _ _ (λ a b e f. ap (λ r. no_grammar (err_of r a).line (err_of r a).cause) (sym e.1 ∙ f.1))
 
   abbrev NotLongFile : Finding → Type 0
   NotLongFile x = NoGrammar x ⊎ InGrammar x
 
   long_in : (x y : Finding) → LongFile x → NotLongFile y → ⊥
-  long_in x y l (inl n) = too_long 65536 (length bytes) l.1 n.fact.0
-  long_in x y l (inr i) = too_long 65536 (length bytes) l.1 i.file.within
+  long_in x y l (inl n) = too_long _ _ l.1 n.fact.0
+  long_in x y l (inr i) = too_long _ _ l.1 i.file.within
 
   pub one_finding : (x y : Finding) → Finds command bytes second x → Finds command bytes second y → x ≡ y
-  one_finding x y a b =
-      one_choice LongFile NotLongFile (λ v w l m. l.0
-      ∙ sym m.0) long_in (one_choice NoGrammar InGrammar one_refused refused_in both_in)
-      x y (steps x a) (steps y b)
+  one_finding x y a b = one_choice _ _ (λ v w l m. l.0 ∙ sym m.0) long_in (one_choice _ _ one_refused refused_in
+      both_in) x y (steps x a) (steps y b)
 
   -- of bytes that are a grammar's file, it finds only what it finds in the grammar
   pub only_in : (g : GrammarValue) → IsFileOf bytes g → (y : Finding)
@@ -96,8 +92,8 @@ module _ (command : Command) (bytes second : List ℕ) where
   only_in g file y only x f = by_step (steps x f)
     where
       by_step : LongFile x ⊎ NotLongFile x → x ≡ y
-      by_step (inl l) = absurd (too_long 65536 (length bytes) l.1 file.within)
+      by_step (inl l) = absurd (too_long _ _ l.1 file.within)
       by_step (inr (inl n)) = absurd (false≢true (ap is_ok (sym n.fact.1 ∙ file.tells)))
       by_step (inr (inr i)) =
-          let same = same_grammar bytes i.grammar g i.file file in
-          only x (subst (λ g. FindsIn command g second x) same i.fact)
+          let same = same_grammar _ _ g i.file file in
+          only x (rw same at i.fact)

@@ -29,7 +29,7 @@ module _ (g : Grammar) (form : List ℕ) (budget : ℕ) (few : budget ≤ 65536)
   problem = problem_from g.tiers g.constraints.items made.u
 
   split : AreSplit problem.tiers
-  split = tiers_split g.tiers.kinds.items
+  split = tiers_split _
 
   over : AllByRecursion (IsOverTiers problem.tiers.width) problem.constraints
   over = over_tiers g
@@ -40,16 +40,15 @@ module _ (g : Grammar) (form : List ℕ) (budget : ℕ) (few : budget ≤ 65536)
   shaped = record {
     width = of_grammar.width;
     inputs = ap length of_grammar.inputs;
-    free = ap (λ (w : Widths). w.free) (same_shape_widths g shape of_grammar made.u);
-    stages = ap length of_grammar.phases ∙ length-stretch_counts g.constraints.items;
-    phases = λ r w. ap (λ (ns : List ℕ). get_or ns r 0) of_grammar.phases
-        ∙ get_or-map-range_with_len (λ i. length (filter is_stretch (take i g.constraints.items))) 0
-        (length g.constraints.items + 1) r r 0 (omega (arith, w)) (omega arith);
+    free = ap (λ (w : Widths). w.free) (same_shape_widths g _ of_grammar made.u);
+    stages = ap length of_grammar.phases ∙ length-stretch_counts _;
+    phases = λ r w. ap (λ (ns : List ℕ). get_or ns r 0) of_grammar.phases ∙ get_or-map-range_with_len _ 0 _ r r 0
+        (omega (arith, w)) (omega arith);
   }
 
   few_nodes : (r : ℕ) → r ≤ last_stage problem → length (nodes_at answer.stages.items r) ≤ 65536
   few_nodes r w =
-      let nodes : List Node = nodes_at answer.stages.items r in
+      let nodes = nodes_at answer.stages.items r in
       omega (
         arith,
         few,
@@ -58,14 +57,13 @@ module _ (g : Grammar) (form : List ℕ) (budget : ℕ) (few : budget ≤ 65536)
       )
 
   orderly : IsOrderly shape answer
-  orderly =
-      orderly_from_right problem shape answer split over made.is_form made.short shaped few_nodes made.right
+  orderly = orderly_from_right _ _ _ split over made.is_form made.short shaped few_nodes made.right
 
   abbrev text : List ℕ
   text = answer_text (widths_of shape) answer
 
   read : IsTextOf shape text (answer_value shape answer)
-  read = read_back shape answer orderly
+  read = read_back _ _ orderly
 
   -- ---- checking
 
@@ -76,9 +74,7 @@ module _ (g : Grammar) (form : List ℕ) (budget : ℕ) (few : budget ≤ 65536)
   }
 
   faultless : IsFaultless problem answer
-  faultless =
-      faultless_if_certified problem answer in_order
-      (certified_from_right problem answer
+  faultless = faultless_if_certified _ _ in_order (certified_from_right _ _
       (record { split = split; over = over; form = made.is_form; right = made.right }) made.short)
 
   judged : length text ≤ 268435456 → IsJudged (value_of g) text Yes
@@ -88,7 +84,7 @@ module _ (g : Grammar) (form : List ℕ) (budget : ℕ) (few : budget ≤ 65536)
     problem = problem;
     reading = record {
       shape = shape;
-      of_grammar = shape_for g shape of_grammar;
+      of_grammar = shape_for g _ of_grammar;
       read = read;
       is_asked = record {
         tiers = sym (same_tiers g);
@@ -101,6 +97,6 @@ module _ (g : Grammar) (form : List ℕ) (budget : ℕ) (few : budget ≤ 65536)
 
   pub generated : IsGeneratedText (value_of g) form (answer_text (widths_of shape) answer)
   generated = record {
-    right = made_right g form budget answer made whole_text text (whole_written g shape of_grammar answer);
+    right = made_right g _ _ _ made _ _ (whole_written g _ of_grammar answer);
     judged = judged;
   }

@@ -10,8 +10,7 @@ use Rattle.violation.specs.{Candidates.vec, Counts.viol}
 use Rattle.otp_tool.specs.{Grammars.{constraint_names, tier_kinds, grammar_tiers}, Results.vector_of}
 
 pub same_kinds : (g : Grammar) → tier_kinds (value_of g) ≡ g.tiers.kinds.items
-same_kinds g = kinds_back (map string_bytes g.tiers.names.items) g.tiers.kinds.items
-    (length-map g.tiers.names.items string_bytes ∙ g.tiers.one_length)
+same_kinds g = kinds_back _ _ (length-map g.tiers.names.items string_bytes ∙ g.tiers.one_length)
 
 pub same_tiers : (g : Grammar) → grammar_tiers (value_of g) ≡ tiers_of_table g.tiers
 same_tiers g = ap tiers_by_kinds (same_kinds g)

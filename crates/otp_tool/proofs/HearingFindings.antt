@@ -31,24 +31,21 @@ module _ (forms : List (List (List Sym))) (budget : ℕ) where
 
   entry_over_within : (ask : List (List Sym) → Problem) (at : ℕ × ℕ) → OverAt ask at → AreEntriesWithin ask forms budget
       → ⊥
-  entry_over_within ask at o w = over_within (ask o.form) budget at.1 o.over (w at.0 o.form o.numbered)
+  entry_over_within ask at o w = over_within _ _ _ o.over (w at.0 o.form o.numbered)
 
   -- no earlier entry is over the budget
   not_before : (ask : List (List Sym) → Problem) (at other : ℕ × ℕ) → OverAt ask at → OverAt ask other
       → at.0 < other.0 → ⊥
-  not_before ask at other o p l =
-      over_within (ask o.form) budget at.1 o.over (p.before at.0 o.form l o.numbered)
+  not_before ask at other o p l = over_within _ _ _ o.over (p.before at.0 o.form l o.numbered)
 
   one_entry : (ask : List (List Sym) → Problem) (at other : ℕ × ℕ) → OverAt ask at → OverAt ask other
       → over_budget at.0 at.1 ≡ over_budget other.0 other.1
   one_entry ask at other o p =
-      let same : at.0 ≡ other.0 =
-      equal_where at.0 other.0 (not_before ask at other o p) (not_before ask other at p o) in
-      let here : slice_get forms other.0 ≡ Some o.form = ap (slice_get forms) (sym same) ∙ o.numbered in
-      let form : p.form ≡ o.form = same_form other.0 p.form o.form p.numbered here in
-      let over = subst (λ u. IsFirstOver (ask u) budget other.1) form p.over in
-      ap (λ i. over_budget i at.1) same
-      ∙ ap (over_budget other.0) (one_stage (ask o.form) budget at.1 other.1 o.over over)
+      let same = equal_where _ _ (not_before _ at other o p) (not_before _ _ at p o) in
+      let here = ap (slice_get forms) (sym same) ∙ o.numbered in
+      let form = same_form _ _ _ p.numbered here in
+      let over = rw form at p.over in
+      ap (λ i. over_budget i at.1) same ∙ ap (over_budget other.0) (one_stage _ _ _ _ o.over over)
 
 -- ---- problems that are asked by one grammar
 
@@ -65,8 +62,8 @@ module _ (g : GrammarValue) (forms : List (List (List Sym))) (budget : ℕ) (ask
   over_by_another at o = record {
     form = o.form;
     numbered = o.numbered;
-    over = first_over_alike budget at.1 (ask o.form) (another o.form) (alike o.form) o.over;
-    before = λ i u l n. all_within_alike budget (ask u) (another u) (alike u) (o.before i u l n);
+    over = first_over_alike _ _ _ _ (alike _) o.over;
+    before = λ i u l n. all_within_alike _ _ _ (alike u) (o.before i u l n);
   }
 
 -- ---- in `comprehend`
@@ -108,11 +105,10 @@ module _ (g : GrammarValue) (word : List ℕ) (budget : ℕ) (bytes : List ℕ) 
   steps other f = absurd f
 
   one_surface_refusal : (x y : Finding) → RefusesSurface g word x → RefusesSurface g word y → x ≡ y
-  one_surface_refusal =
-      one_of (no_form 3) (IsNoSurface g word) (λ e f c d. ap (no_form 3) (one_cause (overt_count g) 64 word e f c d))
+  one_surface_refusal = one_of _ _ (λ e f c d. ap (no_form 3) (one_cause _ 64 _ e f c d))
 
   surface_apart : (x : Finding) → RefusesSurface g word x → HasSurfaceWord g word → ⊥
-  surface_apart x r s = surface_and_refused (overt_count g) 64 word s.0 r.value s.1 r.fact
+  surface_apart x r s = surface_and_refused _ 64 _ _ _ s.1 r.fact
 
   -- the word is a surface, and the file a lexicon
   has_surface : (x : Finding) → WithLexicon x → HasSurfaceWord g word
@@ -129,44 +125,33 @@ module _ (g : GrammarValue) (word : List ℕ) (budget : ℕ) (bytes : List ℕ) 
   refused_apart x y r (inr (inr w)) = surface_apart x r (has_surface y w)
 
   long_apart : (x y : Finding) → Long x → NotLong y → ⊥
-  long_apart x y l (inl n) = too_long 4194304 (length bytes) l.1.1 n.fact.1.within
-  long_apart x y l (inr w) = too_long 4194304 (length bytes) l.1.1 (has_entries y w).1.within
+  long_apart x y l (inl n) = too_long _ _ l.1.1 n.fact.1.within
+  long_apart x y l (inr w) = too_long _ _ l.1.1 (has_entries y w).1.within
 
   no_lexicon_apart : (x y : Finding) → NoLexicon x → WithLexicon y → ⊥
   no_lexicon_apart x y n w =
       let e = has_entries y w in
-      lexicon_and_refused (grammar_inputs g) g.letters bytes e.0 n.value e.1.are n.fact.1.refused
+      lexicon_and_refused _ _ _ _ _ e.1.are n.fact.1.refused
 
   one_no_lexicon : (x y : Finding) → NoLexicon x → NoLexicon y → x ≡ y
-  one_no_lexicon =
-      one_of no_lexicon IsRefusedLexicon
-      (λ e f c d. ap no_lexicon (one_lexicon_cause (grammar_inputs g) g.letters bytes e f c.1.refused d.1.refused))
+  one_no_lexicon = one_of _ _ (λ e f c d. ap no_lexicon (one_lexicon_cause _ _ _ e f c.1.refused d.1.refused))
 
   -- an entry that is over the budget by another reading of the grammar and the file
   over_in : (at : ℕ × ℕ) (o : IsEntryOver at) (entries : List LexicalEntry) (ask : List (List Sym) → Problem)
       → IsLexiconFile g bytes entries → AreAsked g ask → OverAt (forms_in entries) budget ask at
   over_in at o entries ask file a =
-      let same : o.entries ≡ entries =
-      one_lexicon (grammar_inputs g) g.letters bytes o.entries entries o.file.are file.are in
-      subst (λ (es : List LexicalEntry). OverAt (forms_in es) budget ask at) same
-      (over_by_another g (forms_in o.entries) budget o.ask ask o.are_asked a at o.fact)
+      let same = one_lexicon _ _ _ _ _ o.file.are file.are in
+      rw same at (over_by_another g _ _ _ _ o.are_asked a at o.fact)
 
   over_apart : (x y : Finding) → Over x → Within y → ⊥
-  over_apart x y o i =
-      entry_over_within (forms_in i.1.entries) budget i.1.ask o.value
-      (over_in o.value o.fact i.1.entries i.1.ask i.1.file i.1.are_asked) i.1.fact
+  over_apart x y o i = entry_over_within _ _ _ _ (over_in _ o.fact _ _ i.1.file i.1.are_asked) i.1.fact
 
   one_over : (x y : Finding) → Over x → Over y → x ≡ y
-  one_over =
-      one_of (λ (at : ℕ × ℕ). over_budget at.0 at.1) IsEntryOver
-      (λ at other o p. one_entry (forms_in p.entries) budget p.ask at other
-      (over_in at o p.entries p.ask p.file p.are_asked) p.fact)
+  one_over = one_of _ _ (λ at other o p. one_entry (forms_in p.entries) budget _ at other (over_in at o p.entries p.ask
+      p.file p.are_asked) p.fact)
 
   pub for_hearing : (x y : Finding) → FindsForHearing g word budget bytes x → FindsForHearing g word budget bytes y
       → x ≡ y
-  for_hearing x y a b =
-      one_choice (RefusesSurface g word) (λ z. Long z ⊎ NotLong z) one_surface_refusal refused_apart
-      (one_choice Long NotLong (λ v w l m. l.0 ∙ sym m.0) long_apart
-      (one_choice NoLexicon WithLexicon one_no_lexicon no_lexicon_apart
-      (one_choice Over Within one_over over_apart (λ v w i j. i.0 ∙ sym j.0))))
-      x y (steps x a) (steps y b)
+  for_hearing x y a b = one_choice _ _ one_surface_refusal refused_apart (one_choice _ _ (λ v w l m. l.0 ∙ sym m.0)
+      long_apart (one_choice _ _ one_no_lexicon no_lexicon_apart (one_choice _ _ one_over over_apart (λ v w i j. i.0
+      ∙ sym j.0)))) x y (steps x a) (steps y b)

@@ -38,14 +38,14 @@ module _ (g : Grammar) where
   module _ (word : List ℕ) where
     pub is_read : (s : List (List Sym)) → IsTextOf (length (tiers_of_table g.tiers).overt) 64 word s
         → IsSurfaceOf (value_of g) word s
-    is_read s t = subst (λ (n : ℕ). IsTextOf n 64 word s) (sym same_overt) t
+    is_read s t = rw same_overt t
 
     pub refused_surface : (cause : FormErr) → IsCause (length (tiers_of_table g.tiers).overt) 64 word cause
         → RefusesSurface (value_of g) word (no_form 3 cause)
     refused_surface cause r = record {
       value = cause;
       is = refl;
-      fact = subst (λ (n : ℕ). IsCause n 64 word cause) (sym same_overt) r;
+      fact = rw same_overt r;
     }
 
   module _ (bytes : List ℕ) (within : length bytes ≤ 4194304) where
@@ -87,20 +87,13 @@ module _ (g : Grammar) (surface lexicon : List ℕ) (budget : ℕ) where
 
   pub no_surface : (c : Change) → IsUntouched c.taking → (s : Status)
       → IsRefusal (RefusesSurface (value_of g) surface) s → Work c s
-  no_surface c t s r =
-      refused_before (HasSurfaceWord (value_of g) surface) (FindsForHearing (value_of g) surface budget)
-      (IsHeardText (value_of g) surface) c t
-      (Some (lexicon_file lexicon)) (RefusesSurface (value_of g) surface)
-      (surface_for_hearing (value_of g) surface budget) s r
+  no_surface c t s r = refused_before _ _ _ c t _ _ (surface_for_hearing (value_of g) surface budget) s r
 
   module _ (heard : List (List Sym)) (read : IsSurfaceOf (value_of g) surface heard) where
     pub no_lexicon_loaded : (c : Change) → IsUntouched c.taking → (s : Status)
         → IsSecondRefusal (lexicon_file lexicon) (c.held lexicon) (c.faults_before lexicon) (c.faults_after lexicon) s
         → Work c s
-    no_lexicon_loaded c t s r =
-        second_refused (HasSurfaceWord (value_of g) surface) (FindsForHearing (value_of g) surface budget)
-        (IsHeardText (value_of g) surface) c t
-        (lexicon_file lexicon) (heard, read) (λ bytes l. (refl, ((heard, read), l))) s r
+    no_lexicon_loaded c t s r = second_refused _ _ _ c t _ (heard, read) (λ bytes l. (refl, ((heard, read), l))) s r
 
     module _ (bytes : List ℕ) where
       pub no_lexicon_read : (c : Change) → IsHeld (c.held lexicon) bytes → IsUntouched c.taking → (s : Status)
@@ -109,8 +102,7 @@ module _ (g : Grammar) (surface lexicon : List ℕ) (budget : ℕ) where
         bytes = bytes;
         holds = h;
         step = inl (
-          refusal_weaker (RefusesLexicon (value_of g) bytes) (FindsForHearing (value_of g) surface budget bytes)
-              (lexicon_for_hearing (value_of g) surface budget bytes heard read) s r,
+          refusal_weaker _ _ (lexicon_for_hearing _ _ _ _ _ read) s r,
           t,
         );
       })
@@ -125,11 +117,8 @@ module _ (g : Grammar) (surface lexicon : List ℕ) (budget : ℕ) where
           bytes = bytes;
           holds = h;
           step = inl (
-            refusal_weaker (RefusesEntry ask (forms_in (entries_seen entries)) budget)
-                (FindsForHearing (value_of g) surface budget bytes)
-                (entry_for_hearing (value_of g) surface budget bytes heard read ask (asks_all g) (entries_seen entries)
-                file) s
-                (subst (λ forms. IsRefusal (RefusesEntry ask forms budget) s) (same_forms entries) r),
+            refusal_weaker _ _ (entry_for_hearing _ _ _ _ _ read _ (asks_all g) _ file) s (rw (same_forms entries)
+                at r),
             t,
           );
         })
@@ -144,7 +133,7 @@ module _ (g : Grammar) (surface lexicon : List ℕ) (budget : ℕ) where
             read = read;
             entries = entries_seen entries;
             file = file;
-            fact = subst (λ forms. AreEntriesWithin ask forms budget) (same_forms entries) within;
+            fact = rw (same_forms entries) at within;
           }
 
           is_text : IsHeardText (value_of g) surface bytes (hits_text (names_of entries) hits)
@@ -157,8 +146,8 @@ module _ (g : Grammar) (surface lexicon : List ℕ) (budget : ℕ) where
             file = file;
             fact = record {
               hits = hits;
-              hears = subst (λ forms. Hears ask forms heard hits) (same_forms entries) hears;
-              written = ap (λ names. hits_text names hits) (same_names entries);
+              hears = rw (same_forms entries) at hears;
+              written = ap (λ names. hits_text names hits) (same_names _);
             };
           }
 
@@ -169,6 +158,5 @@ module _ (g : Grammar) (surface lexicon : List ℕ) (budget : ℕ) where
           hits_written shelf sink from to old new h r p s e = inr (record {
             bytes = bytes;
             holds = h;
-            step = written (IsHeardText (value_of g) surface bytes) (hits_text (names_of entries) hits) is_text
-                (FindsForHearing (value_of g) surface budget bytes) is_ready r p s e;
+            step = written _ _ is_text (FindsForHearing (value_of g) surface budget bytes) is_ready r p s e;
           })

@@ -52,8 +52,7 @@ module _ (g : Grammar) where
   module _ (form : List ℕ) (budget : ℕ) where
     pub no_form_once : (s : Status) → IsRefusal (RefusesForm (value_of g) form) s
         → IsRefusal (FindsForOnce (value_of g) form budget) s
-    no_form_once = refusal_weaker (RefusesForm (value_of g) form) (FindsForOnce (value_of g) form budget)
-        (form_for_once (value_of g) form budget)
+    no_form_once = refusal_weaker _ _ (form_for_once (value_of g) form budget)
 
     module _ (u : List (List Sym)) (a : IsAsked (value_of g) form (problem_from g.tiers g.constraints.items u)) where
       abbrev problem : Problem
@@ -61,8 +60,7 @@ module _ (g : Grammar) where
 
       pub no_pass : (s : Status) → IsRefusal (RefusesOnce problem budget) s
           → IsRefusal (FindsForOnce (value_of g) form budget) s
-      no_pass = refusal_weaker (RefusesOnce problem budget) (FindsForOnce (value_of g) form budget)
-          (budget_for_once (value_of g) form budget problem a)
+      no_pass = refusal_weaker _ _ (budget_for_once _ _ _ _ a)
 
       module _ (answer : OnceAnswer) (right : IsRightOnce problem answer)
           (joined : HaveJoinedArcs answer.automaton.states.items) (within : AreWholeKindsWithin problem budget) where
@@ -77,7 +75,7 @@ module _ (g : Grammar) where
           answer = answer;
           right = right;
           joined = joined;
-          written = ap (λ (w : OnceWidths). once_text w answer) (widths_are shape s u);
+          written = ap (λ (w : OnceWidths). once_text w answer) (widths_are _ s u);
         }
 
         pub pass_written : {O A : Type 0} {sink : Ghosts O} {old new : O} (shape : Shape) → IsShapeOf g shape

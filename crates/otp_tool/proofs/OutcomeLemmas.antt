@@ -36,7 +36,7 @@ pub long_held : (held : Option (List ℕ)) (limit : ℕ) → IfSome held (λ tex
 long_held None limit l = record {
   bytes = zeros (suc limit);
   holds = tt;
-  long = subst (λ (n : ℕ). limit < n) (sym (length_zeros (suc limit))) (omega arith);
+  long = rw (length_zeros (suc limit)) (omega arith);
 }
 long_held (Some text) limit l = record { bytes = text; holds = refl; long = l }
 
@@ -48,7 +48,7 @@ some_held (Some text) = (text, refl)
 pub some_second : (held : List ℕ → Option (List ℕ)) (second : Option NamedFile)
     → (bytes : List ℕ) × IsSecondHeld held second bytes
 some_second held None = ([], tt)
-some_second held (Some file) = some_held (held file.name)
+some_second held (Some file) = some_held _
 
 pub nothing_taken : (t : SinkChange) → IsUntouched t → t.new ≡ t.old
 nothing_taken t e = ap (λ (now : Option (List ℕ) × ℕ). now.0) e
@@ -59,13 +59,13 @@ pub rose_before : (a b c : ℕ) → a ≤ b → Rose b c → Rose a c
 rose_before a b c l r = omega (arith, l, r)
 
 held_before : (now old : Option (List ℕ)) (bytes : List ℕ) → now ≡ old → IsHeld now bytes → IsHeld old bytes
-held_before now old bytes e h = subst (λ (o : Option (List ℕ)). IsHeld o bytes) e h
+held_before now old bytes e h = rw e at h
 
 second_before : (now old : List ℕ → Option (List ℕ)) → ((name : List ℕ) → now name ≡ old name)
     → (second : Option NamedFile) (bytes : List ℕ)
     → IsSecondHeld now second bytes → IsSecondHeld old second bytes
 second_before now old e None bytes h = tt
-second_before now old e (Some file) bytes h = held_before (now file.name) (old file.name) bytes (e file.name) h
+second_before now old e (Some file) bytes h = held_before _ _ _ (e file.name) h
 
 -- the work of a command, from before the load of its grammar on
 module _ (held : List ℕ → Option (List ℕ)) (before : List ℕ → ℕ) (c : Change) (same : (name : List ℕ)
@@ -80,24 +80,22 @@ module _ (held : List ℕ → Option (List ℕ)) (before : List ℕ → ℕ) (c 
     file = n.file;
     is_second = n.is_second;
     reached = n.reached;
-    rose = rose_before (before n.file.name) (c.faults_before n.file.name) (c.faults_after n.file.name)
-        (less n.file.name) n.rose;
+    rose = rose_before _ _ _ (less n.file.name) n.rose;
     answer = n.answer;
     untouched = n.untouched;
   })
   work_before second reaches finds writes s (inr w) = inr (record {
     bytes = w.bytes;
-    holds = second_before c.held held same second w.bytes w.holds;
+    holds = second_before _ _ same _ _ w.holds;
     step = w.step;
   })
 
   pub work_of_before : (command : Command) (g : GrammarValue) (s : Status) → IsWorkOf command g c s
       → IsWorkOf command g earlier s
-  work_of_before command g s (inl w) =
-      inl (work_before (second_file command) (ReachesSecondFile command g) (FindsIn command g) (IsResult command g) s w)
+  work_of_before command g s (inl w) = inl (work_before _ _ _ _ s w)
   work_of_before command g s (inr n) = inr (record {
     bytes = n.bytes;
-    holds = second_before c.held held same (second_file command) n.bytes n.holds;
+    holds = second_before _ _ same _ _ n.holds;
     found = n.found;
     end = n.end;
   })
@@ -136,14 +134,14 @@ module _ (words : List (List ℕ)) (c : Change) (command : Command) (are : IsCom
       (faults_of c.faults_after (named_grammar command)) s → IsOutcome words c s
   by_load t (GrammarRefused word line cause) r = (
     r.0,
-    found_first (no_grammar line cause) r.1.bytes r.1.holds (λ second. (r.1.within, r.1.refused)),
+    found_first _ _ r.1.holds (λ second. (r.1.within, r.1.refused)),
     t,
   )
-  by_load t (ReadFault word) r = (grammar_fault (named_grammar command) refl word r.0 r.1, t)
-  by_load t NoMemory r = ((command, are), inl (nothing_taken c.taking t))
+  by_load t (ReadFault word) r = (grammar_fault _ refl _ r.0 r.1, t)
+  by_load t NoMemory r = ((command, are), inl (nothing_taken _ t))
   by_load t (TooLong word) r =
-      let l = long_held (grammar_told c.held (named_grammar command)) 65536 r.1 in
-      (inl (r.0, found_first long_file l.bytes l.holds (λ second. l.long)), t)
+      let l = long_held _ _ r.1 in
+      (inl (r.0, found_first _ _ l.holds (λ second. l.long)), t)
   by_load t other r = absurd r
 
   module _ (g : GrammarValue) (l : IsLoaded (grammar_told c.held (named_grammar command)) g) where
@@ -158,25 +156,19 @@ module _ (words : List (List ℕ)) (c : Change) (command : Command) (are : IsCom
       behind x f = record { command = command; bytes = l.bytes; second = second; reads = reads; finds = f }
 
       is_ready : FindsIn command g second ready → IsBehind words c.held ready
-      is_ready f = behind ready (on (λ h. FindsIn command h second ready) f)
+      is_ready f = behind _ (on _ f)
 
       -- ---- from a refusal
 
       by_refusal : IsUntouched c.taking → (s : Status) → IsRefusal (FindsIn command g second) s
           → IsOutcome words c s
-      by_refusal t (FormRefused word cause) r =
-          (behind (no_form word cause) (on (λ h. FindsIn command h second (no_form word cause)) r), t)
-      by_refusal t (LexiconRefused word cause) r =
-          (r.0, behind (no_lexicon cause) (on (λ h. FindsIn command h second (no_lexicon cause)) r.1), t)
-      by_refusal t (AnswerRefused word line cause) r =
-          (r.0, behind (no_answer line cause) (on (λ h. FindsIn command h second (no_answer line cause)) r.1), t)
-      by_refusal t (Budget entry stage) r =
-          (behind (over_budget entry stage) (on (λ h. FindsIn command h second (over_budget entry stage)) r), t)
-      by_refusal t NoMemory r = ((command, are), inl (nothing_taken c.taking t))
-      by_refusal t (RowsRefused word row cause) r =
-          (r.0, behind (no_rows row cause) (on (λ h. FindsIn command h second (no_rows row cause)) r.1), t)
-      by_refusal t (TooLong word) r =
-          (inr (behind (long_second word) (on (λ h. FindsIn command h second (long_second word)) r)), t)
+      by_refusal t (FormRefused word cause) r = (behind _ (on _ r), t)
+      by_refusal t (LexiconRefused word cause) r = (r.0, behind _ (on _ r.1), t)
+      by_refusal t (AnswerRefused word line cause) r = (r.0, behind _ (on _ r.1), t)
+      by_refusal t (Budget entry stage) r = (behind _ (on _ r), t)
+      by_refusal t NoMemory r = ((command, are), inl (nothing_taken _ t))
+      by_refusal t (RowsRefused word row cause) r = (r.0, behind _ (on _ r.1), t)
+      by_refusal t (TooLong word) r = (inr (behind _ (on _ r)), t)
       by_refusal t other r = absurd r
 
       -- ---- from writing
@@ -189,13 +181,13 @@ module _ (words : List (List ℕ)) (c : Change) (command : Command) (are : IsCom
         second = second;
         reads = reads;
         text = text;
-        result = on (λ h. writes command h second text) r;
+        result = on _ r;
         fact = p;
       }
 
       part : IsPartTaken (IsAnyResult command g second) c.taking
           → IsWrittenBehind words c.held IsAnyResult (λ text. HasSentPart c.taking.old text c.taking.new)
-      part p = written IsAnyResult (λ text. HasSentPart c.taking.old text c.taking.new) p.text p.is p.part
+      part p = written _ _ _ p.is p.part
 
       -- a front of a text of one kind is one of either
       plain_part : IsPartTaken (IsResult command g second) c.taking
@@ -217,20 +209,20 @@ module _ (words : List (List ℕ)) (c : Change) (command : Command) (are : IsCom
           → IsOutcome words c s
       by_end f Done e = (
         is_ready f,
-        written IsResult (λ text. c.taking.new ≡ append_if_seen c.taking.old text) e.text e.is e.taken,
+        written _ _ _ e.is e.taken,
       )
       by_end f WriteFault e = (is_ready f, part (plain_part e.0), e.1)
-      by_end f NoMemory e = ((command, are), memory (IsResult command g second) plain_part e)
+      by_end f NoMemory e = ((command, are), memory _ plain_part e)
       by_end f other e = absurd e
 
       by_no_end : FindsIn command g second ready → (s : Status) → IsNoEnd (IsNoResult command g second) c.taking s
           → IsOutcome words c s
       by_no_end f No e = (
         is_ready f,
-        written IsNoResult (λ text. c.taking.new ≡ append_if_seen c.taking.old text) e.text e.is e.taken,
+        written _ _ _ e.is e.taken,
       )
       by_no_end f WriteFault e = (is_ready f, part (no_part e.0), e.1)
-      by_no_end f NoMemory e = ((command, are), memory (IsNoResult command g second) no_part e)
+      by_no_end f NoMemory e = ((command, are), memory _ no_part e)
       by_no_end f other e = absurd e
 
       by_step : (s : Status) → IsStep (FindsIn command g second) (IsResult command g second) c.taking s
@@ -241,24 +233,23 @@ module _ (words : List (List ℕ)) (c : Change) (command : Command) (are : IsCom
     -- ---- from a second file
 
     unread : (s : Status) → IsNotRead (second_file command) (ReachesSecondFile command g) c s → IsOutcome words c s
-    unread s n =
-        subst (IsOutcome words c) (sym n.answer) (
-          record {
-            command = command;
-            are = are;
-            file = n.file;
-            loads = inr (
-              n.is_second,
-              record
-                  { bytes = l.bytes; holds = l.holds; accepts = on (ReachesSecondFile command) n.reached },
-            );
-            by_word = refl;
-            rose = n.rose;
-          },
-          n.untouched,
-        )
+    unread s n = rw n.answer (
+      record {
+        command = command;
+        are = are;
+        file = n.file;
+        loads = inr (
+          n.is_second,
+          record
+              { bytes = l.bytes; holds = l.holds; accepts = on _ n.reached },
+        );
+        by_word = refl;
+        rose = n.rose;
+      },
+      n.untouched,
+    )
 
     pub by_work : (s : Status) → IsWorkOf command g c s → IsOutcome words c s
     by_work s (inl (inl n)) = unread s n
-    by_work s (inl (inr w)) = by_step w.bytes w.holds s w.step
-    by_work s (inr n) = by_no_end n.bytes n.holds n.found s n.end
+    by_work s (inl (inr w)) = by_step _ w.holds s w.step
+    by_work s (inr n) = by_no_end _ n.holds n.found s n.end

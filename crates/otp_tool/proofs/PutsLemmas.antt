@@ -9,8 +9,8 @@ module _ {O A : Type 0} {sink : Ghosts O} where
   pub puts_then : {old mid new : O} {first second : List ℕ} {x : A} {r : Result A WriteErr}
       → Puts {A = A} sink old mid first (Ok x) → Puts sink mid new second r → Puts sink old new (first ++ second) r
   puts_then {first = first} {second} {r = r} a b =
-      let sent = sends_front second (sends_whole first a.ok) in record {
-        ok = on_ok_weaker r (λ e. sends_all (sends_after sent (sends_whole second e))) b.ok;
+      let sent = sends_front _ (sends_whole _ a.ok) in record {
+        ok = on_ok_weaker r (λ e. sends_all (sends_after sent (sends_whole _ e))) b.ok;
         part = part_after sent b.part;
         never_falls = omega (arith, a.never_falls, b.never_falls);
         failed = λ e. let rose = b.failed e in omega (arith, a.never_falls, rose);
@@ -21,9 +21,9 @@ module _ {O A : Type 0} {sink : Ghosts O} where
       → IsErrAnd r (λ y. y ≡ e) → Puts {A = A} sink old new first (Err e) → Puts sink old new (first ++ more) r
   puts_cut {old} {new} {first} {r} {e} more is p =
       let q = err_from_is_err_and r is in
-      subst (λ r. Puts {A = A} sink old new (first ++ more) r) (sym (q.1 ∙ ap Err q.2)) (record {
+      rw (q.1 ∙ ap Err q.2) (record {
         ok = tt;
-        part = longer_part more p.part;
+        part = longer_part _ p.part;
         never_falls = p.never_falls;
         failed = p.failed;
       })

@@ -31,58 +31,56 @@ module _ (P Q : Finding → Type 0) (weaker : (x : Finding) → P x → Q x) whe
 
 module _ (g : GrammarValue) (word : List ℕ) (budget : ℕ) where
   pub form_for_answer : (x : Finding) → RefusesForm g word x → FindsForAnswer g word budget x
-  form_for_answer x r = subst (FindsForAnswer g word budget) (sym r.is) (refl, r.fact)
+  form_for_answer x r = rw r.is (refl, r.fact)
 
   pub budget_for_answer : (problem : Problem) → IsAsked g word problem → (x : Finding) → RefusesBudget problem budget x
       → FindsForAnswer g word budget x
   budget_for_answer problem a x r =
-      subst (FindsForAnswer g word budget) (sym r.is) (refl, record { problem = problem; is_asked = a; over = r.fact })
+      rw r.is (refl, record { problem = problem; is_asked = a; over = r.fact })
 
   pub form_for_once : (x : Finding) → RefusesForm g word x → FindsForOnce g word budget x
-  form_for_once x r = subst (FindsForOnce g word budget) (sym r.is) (refl, r.fact)
+  form_for_once x r = rw r.is (refl, r.fact)
 
   pub budget_for_once : (problem : Problem) → IsAsked g word problem → (x : Finding) → RefusesOnce problem budget x
       → FindsForOnce g word budget x
   budget_for_once problem a x r =
-      subst (FindsForOnce g word budget) (sym r.is) (refl, record { problem = problem; is_asked = a; fact = r.fact })
+      rw r.is (refl, record { problem = problem; is_asked = a; fact = r.fact })
 
 -- ---- tableaux
 
 module _ (g : GrammarValue) (word : List ℕ) (budget : ℕ) (bytes : List ℕ) where
   pub form_for_tableau : (x : Finding) → RefusesForm g word x → FindsForTableau g word budget bytes x
-  form_for_tableau x r = subst (FindsForTableau g word budget bytes) (sym r.is) (refl, r.fact)
+  form_for_tableau x r = rw r.is (refl, r.fact)
 
   pub rows_for_tableau : (problem : Problem) → IsAsked g word problem → (x : Finding)
       → RefusesRows problem budget bytes x → FindsForTableau g word budget bytes x
   rows_for_tableau problem a x (inl r) =
-      subst (FindsForTableau g word budget bytes) (sym r.is) (record { problem = problem; is_asked = a; fact = r.fact })
-  rows_for_tableau problem a x (inr r) =
-      subst (FindsForTableau g word budget bytes) (sym r.1.is)
+      rw r.is (record { problem = problem; is_asked = a; fact = r.fact })
+  rows_for_tableau problem a x (inr r) = rw r.1.is
       (refl, record { problem = problem; is_asked = a; fact = (r.0, r.1.fact) })
 
 -- ---- hearing
 
 module _ (g : GrammarValue) (word : List ℕ) (budget : ℕ) (bytes : List ℕ) where
   pub surface_for_hearing : (x : Finding) → RefusesSurface g word x → FindsForHearing g word budget bytes x
-  surface_for_hearing x r = subst (FindsForHearing g word budget bytes) (sym r.is) (refl, r.fact)
+  surface_for_hearing x r = rw r.is (refl, r.fact)
 
   module _ (surface : List (List Sym)) (read : IsSurfaceOf g word surface) where
     pub lexicon_for_hearing : (x : Finding) → RefusesLexicon g bytes x → FindsForHearing g word budget bytes x
-    lexicon_for_hearing x r = subst (FindsForHearing g word budget bytes) (sym r.is) ((surface, read), r.fact)
+    lexicon_for_hearing x r = rw r.is ((surface, read), r.fact)
 
     pub entry_for_hearing : (ask : List (List Sym) → Problem) → AreAsked g ask → (entries : List LexicalEntry)
         → IsLexiconFile g bytes entries → (x : Finding) → RefusesEntry ask (forms_in entries) budget x
         → FindsForHearing g word budget bytes x
-    entry_for_hearing ask a entries file x r =
-        subst (FindsForHearing g word budget bytes) (sym r.is) (record {
-          ask = ask;
-          are_asked = a;
-          surface = surface;
-          read = read;
-          entries = entries;
-          file = file;
-          fact = r.fact;
-        })
+    entry_for_hearing ask a entries file x r = rw r.is (record {
+      ask = ask;
+      are_asked = a;
+      surface = surface;
+      read = read;
+      entries = entries;
+      file = file;
+      fact = r.fact;
+    })
 
 -- ---- second files
 
@@ -97,7 +95,7 @@ module _ (reaches : Type 0) (finds : List ℕ → Finding → Type 0) (writes : 
       inr (record {
         bytes = b.0;
         holds = b.1;
-        step = inl (refusal_weaker P (finds b.0) (weaker b.0) s r, untouched);
+        step = inl (refusal_weaker P _ (weaker b.0) s r, untouched);
       })
 
   module _ (file : NamedFile) (reached : reaches) (long : (bytes : List ℕ) → file.limit < length bytes
@@ -114,13 +112,13 @@ module _ (reaches : Type 0) (finds : List ℕ → Finding → Type 0) (writes : 
       untouched = untouched;
     })
     second_refused NoMemory r =
-        let b = some_held (c.held file.name) in
+        let b = some_held _ in
         inr (record { bytes = b.0; holds = b.1; step = inl (tt, untouched) })
     second_refused (TooLong word) r =
-        let l = long_held (c.held file.name) file.limit r.1 in
+        let l = long_held _ _ r.1 in
         inr (record {
           bytes = l.bytes;
           holds = l.holds;
-          step = inl (subst (λ (w : ℕ). finds l.bytes (long_second w)) (sym r.0) (long l.bytes l.long), untouched);
+          step = inl (rw r.0 (long l.bytes l.long), untouched);
         })
     second_refused other r = absurd r

@@ -14,15 +14,14 @@ module _ (problem : Problem) (cs ds : List Constraint) where
 
   all_alike : (rows : List (List (List Sym))) → All (IsCandidate (with_constraints problem cs)) rows
       → All (IsCandidate (with_constraints problem ds)) rows
-  all_alike rows a = All-weaker (IsCandidate (with_constraints problem cs))
-      (IsCandidate (with_constraints problem ds)) candidate_alike rows a
+  all_alike rows a = All-weaker _ _ candidate_alike _ a
 
 module _ (problem : Problem) (cs ds : List Constraint) where
   rows_of_constraints : (lines : List (List ℕ)) (rows : List (List (List Sym)))
       → AreRowsOf (with_constraints problem cs) lines rows → AreRowsOf (with_constraints problem ds) lines rows
   rows_of_constraints lines rows a = record {
     texts = a.texts;
-    candidates = all_alike problem cs ds rows a.candidates;
+    candidates = all_alike problem cs ds _ a.candidates;
     within = a.within;
     few = a.few;
   }
@@ -37,7 +36,7 @@ module _ (problem : Problem) (cs ds : List Constraint) where
     record {
       timeline = l.1.timeline;
       text = l.1.text;
-      other = λ c. l.1.other (candidate_alike problem ds cs l.1.timeline c);
+      other = λ c. l.1.other (candidate_alike problem ds cs _ c);
     },
   )
 
@@ -51,9 +50,9 @@ module _ (problem : Problem) (cs ds : List Constraint) where
     whole = r.whole;
     counted = r.counted;
     rows = r.rows;
-    read = rows_of_constraints r.front r.rows r.read;
+    read = rows_of_constraints _ _ r.read;
     has_row = r.has_row;
-    comes = cause_of_constraints (length r.rows) r.line cause r.comes;
+    comes = cause_of_constraints _ _ _ r.comes;
   }
 
 -- what is asked by the constraints of p of other tiers and another form
@@ -63,7 +62,4 @@ ask p tiers u = record { tiers = tiers; constraints = p.constraints; form = u }
 module _ (p q : Problem) (tiers : p.tiers ≡ q.tiers) (form : p.form ≡ q.form) where
   pub refused_alike : (lines : List (List ℕ)) (row : ℕ) (cause : RowsCause) → IsRefusedAt p lines row cause
       → IsRefusedAt q lines row cause
-  refused_alike lines row cause r =
-      refused_of_constraints q p.constraints q.constraints lines row cause
-      (subst (λ u. IsRefusedAt (ask p q.tiers u) lines row cause) form
-      (subst (λ ts. IsRefusedAt (ask p ts p.form) lines row cause) tiers r))
+  refused_alike lines row cause r = refused_of_constraints q _ _ _ _ _ (rw form at (rw tiers at r))

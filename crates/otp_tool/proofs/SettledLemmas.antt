@@ -37,7 +37,7 @@ values_length shape n (stage ∷ stages) = ap suc (values_length shape (n + 1) s
 
 -- a stage behind the last has no nodes
 no_nodes : (stages : List Stage) (r : ℕ) → length stages ≤ r → nodes_at stages r ≡ []
-no_nodes stages r past = get_or_past (map (λ (stage : Stage). stage.nodes.items) stages) r []
+no_nodes stages r past = get_or_past _ r []
     (omega (arith, length-map stages (λ (stage : Stage). stage.nodes.items), past))
 
 -- the value of stage m, which has number r among the stages from number n on
@@ -76,17 +76,15 @@ module _ (g : Grammar) (bytes : List ℕ) (shape : Shape) (of_grammar : IsShapeO
         ap length of_grammar.phases,
         length-stretch_counts g.constraints.items,
       ) in
-      ap (λ ns. get_or ns r 0) of_grammar.phases
-      ∙ get_or-map-range_with_len (λ i. length (filter is_stretch (take i g.constraints.items))) 0
-      (length g.constraints.items + 1) r r 0 few (omega arith)
+      ap (λ ns. get_or ns r 0) of_grammar.phases ∙ get_or-map-range_with_len _ 0 _ r r 0 few (omega arith)
 
   free_told : free_count shape ≡ length problem.tiers.free
-  free_told = ap (λ (w : Widths). w.free) (same_shape_widths g shape of_grammar answer.form)
+  free_told = ap (λ (w : Widths). w.free) (same_shape_widths g _ of_grammar answer.form)
 
   module _ (other : Answer) (form_shape : Shape) (for : IsShapeFor (value_of g) form_shape)
       (also : IsTextOf form_shape bytes (answer_value form_shape other)) where
     alike : AreAlike shape form_shape
-    alike = shapes_alike (value_of g) shape form_shape (shape_for g shape of_grammar) for
+    alike = shapes_alike _ _ _ (shape_for g _ of_grammar) for
 
     same_value : answer_value shape answer ≡ answer_value form_shape other
     same_value = ap (λ r. value_in r (answer_value shape answer))

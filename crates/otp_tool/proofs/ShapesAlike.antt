@@ -34,9 +34,7 @@ then_alike (Err at) f h e = refl
 line_alike : {X Y : Type 0} (of other : List ℕ → Result X AnswerCause) (f h : X → ℕ → List (List ℕ) → Result Y At)
     → of ≡ other → ((x : X) (n : ℕ) (lines : List (List ℕ)) → f x n lines ≡ h x n lines) → (n : ℕ)
     → (lines : List (List ℕ)) → line_then of f n lines ≡ line_then other h n lines
-line_alike of other f h same e n lines =
-    ap (λ by. line_then by f n lines) same
-    ∙ then_alike (first_line other n lines) (λ read. f read.0 (n + 1) read.1) (λ read. h read.0 (n + 1) read.1)
+line_alike of other f h same e n lines = ap (λ by. line_then by f n lines) same ∙ then_alike _ _ _
     (λ read. e read.0 (n + 1) read.1)
 
 choose : {Y : Type 0} (b : Bool) (p q r : Y) → q ≡ r → (if b then p else q) ≡ (if b then p else r)
@@ -66,22 +64,15 @@ module _ (s t : Shape) (alike : AreAlike s t) where
       → stages_from s columns place n lines ≡ stages_from t columns place n lines
   same_stages columns place n [] = refl
   same_stages columns place n (left ∷ []) = refl
-  same_stages columns (behind_stages stages) n (line ∷ next ∷ lines) =
-      choose (is_automaton stages line)
+  same_stages columns (behind_stages stages) n (line ∷ next ∷ lines) = choose (is_automaton stages line)
       (go_on (automaton_of (last_count stages) line) n (stages_read stages (n + 1) (next ∷ lines))) _ _
-      (ap (λ (phases : List ℕ). go_on (stage_of (length phases) (length stages) line) n
-      (λ nodes. stages_from s columns (with_nodes stages nodes []) (n + 1) (next ∷ lines))) alike.phases
-      ∙ go_on_alike (stage_of (length t.phases.items) (length stages) line) n
-      (λ nodes. stages_from s columns (with_nodes stages nodes []) (n + 1) (next ∷ lines))
-      (λ nodes. stages_from t columns (with_nodes stages nodes []) (n + 1) (next ∷ lines))
-      (λ nodes. same_stages columns (with_nodes stages nodes []) (n + 1) (next ∷ lines)))
-  same_stages columns (in_stage stages more nodes) n (line ∷ next ∷ lines) =
-      ap (λ r. go_on r n (λ node. stages_from s columns (with_nodes stages more (nodes ++ node ∷ [])) (n + 1)
-      (next ∷ lines))) (same_node columns (length stages) nodes line)
-      ∙ go_on_alike (next_node t columns (length stages) nodes line) n
-      (λ node. stages_from s columns (with_nodes stages more (nodes ++ node ∷ [])) (n + 1) (next ∷ lines))
-      (λ node. stages_from t columns (with_nodes stages more (nodes ++ node ∷ [])) (n + 1) (next ∷ lines))
-      (λ node. same_stages columns (with_nodes stages more (nodes ++ node ∷ [])) (n + 1) (next ∷ lines))
+      (ap (λ (phases : List ℕ). go_on (stage_of (length phases) (length stages) line) n (λ nodes. stages_from s columns
+      (with_nodes stages nodes []) (n + 1) (next ∷ lines))) alike.phases ∙ go_on_alike _ n _ _ (λ nodes. same_stages
+      columns (with_nodes stages nodes []) (n + 1) (next ∷ lines)))
+  same_stages columns (in_stage stages more nodes) n (line ∷ next ∷ lines) = ap
+      (λ r. go_on r n (λ node. stages_from s columns (with_nodes stages more (nodes ++ node ∷ [])) (n + 1)
+      (next ∷ lines))) (same_node columns (length stages) nodes line) ∙ go_on_alike _ n _ _ (λ node. same_stages columns
+      (with_nodes stages more (nodes ++ node ∷ [])) (n + 1) (next ∷ lines))
 
   same_states : (head : HeadValue) (read : StagesRead) → states_behind s head read ≡ states_behind t head read
   same_states head read =
@@ -100,15 +91,9 @@ module _ (s t : Shape) (alike : AreAlike s t) where
 
   same_form : (form : List (List Sym)) (n : ℕ) (lines : List (List ℕ))
       → behind_form s form n lines ≡ behind_form t form n lines
-  same_form form =
-      line_alike (counts_of (constraint_count s)) (counts_of (constraint_count t))
-      (λ counts. line_then (example_of s) (λ example. stages_behind s (headed form counts example)))
-      (λ counts. line_then (example_of t) (λ example. stages_behind t (headed form counts example)))
-      (ap (λ (phases : List ℕ). counts_of (length phases - 1)) alike.phases)
-      (λ counts. line_alike (example_of s) (example_of t) (λ example. stages_behind s (headed form counts example))
-      (λ example. stages_behind t (headed form counts example))
-      (ap (λ width. timeline_said (codes "example ") width 65536) alike.width)
-      (λ example. same_behind (headed form counts example)))
+  same_form form = line_alike _ _ _ _ (ap (λ (phases : List ℕ). counts_of (length phases - 1)) alike.phases)
+      (λ counts. line_alike _ _ _ _ (ap (λ width. timeline_said (codes "example ") width 65536) alike.width)
+      (λ example. same_behind _))
 
   pub same_reading : (bytes : List ℕ) → answer_of s bytes ≡ answer_of t bytes
   same_reading bytes =
@@ -135,10 +120,7 @@ map_alike f h [] e = refl
 map_alike f h (x ∷ xs) e = ap (λ y. y ∷ map f xs) (e x) ∙ ap (λ ys. h x ∷ ys) (map_alike f h xs e)
 
 counted_as_seen : (cs : List Constraint) → stretch_counts cs ≡ seen_counts (requirements_seen cs)
-counted_as_seen cs =
-    map_alike (λ r. length (filter is_stretch (take r cs)))
-    (λ r. length (filter is_seen_stretch (take r (requirements_seen cs)))) (range_with_len 0 (length cs + 1))
-    (λ r. seen_stretches r cs)
+counted_as_seen cs = map_alike _ _ _ (λ r. seen_stretches r cs)
     ∙ ap (λ n. map (λ r. length (filter is_seen_stretch (take r (requirements_seen cs)))) (range_with_len 0 (n + 1)))
     (sym (length-map cs requirement_seen))
 
@@ -146,6 +128,5 @@ pub shapes_alike : (g : GrammarValue) (s t : Shape) → IsShapeFor g s → IsSha
 shapes_alike g s t a b = record {
   width = a.width ∙ sym b.width;
   inputs = ap length (a.inputs ∙ sym b.inputs);
-  phases = a.phases ∙ counted_as_seen a.constraints ∙ ap seen_counts (a.seen ∙ sym b.seen)
-      ∙ sym (counted_as_seen b.constraints) ∙ sym b.phases;
+  phases = a.phases ∙ counted_as_seen _ ∙ ap seen_counts (a.seen ∙ sym b.seen) ∙ sym (counted_as_seen _) ∙ sym b.phases;
 }

@@ -39,7 +39,7 @@ module _ {O A : Type 0} {sink : Ghosts O} {old new : O} (writes : List ℕ
   pub written : (finds : Finding → Type 0) → finds ready → (r : Result A WriteErr) → Puts sink old new text r
       → (status : Status) → status ≡ write_status r
       → IsStep finds writes (taking_of sink old new) status
-  written finds f r p status s = inr (f, subst (IsWriteStatus writes (taking_of sink old new)) (sym s) (ends r p))
+  written finds f r p status s = inr (f, rw s (ends r p))
 
 both_ok : {X E : Type 0} (r : Result X E) (P Q R : X → Type 0) → ((x : X) → P x → Q x → R x) → IfOk r P → IfOk r Q
     → IfOk r R
@@ -70,17 +70,17 @@ module _ (g : Grammar) where
 
   pub not_scored : (word : List ℕ) (cause : FormErr) → IsNotScored (length g.tiers.kinds.items) word cause
       → FindsForScore (value_of g) word (no_form 2 cause)
-  not_scored word cause n = (refl, subst (λ w. IsNotScored w word cause) (sym same_width) n)
+  not_scored word cause n = (refl, rw same_width n)
 
   pub is_scored : (word : List ℕ) (T : List (List Sym)) → IsScored (length g.tiers.kinds.items) word T
       → FindsForScore (value_of g) word ready
-  is_scored word T s = (T, subst (λ w. IsScored w word T) (sym same_width) s)
+  is_scored word T s = (T, rw same_width s)
 
   pub scored : (word : List ℕ) (T : List (List Sym)) (counts : List ℕ) → IsScored (length g.tiers.kinds.items) word T
       → counts ≡ vec g.constraints.items T → IsScoreText (value_of g) word (counts_text counts)
   scored word T counts s e = record {
     timeline = T;
-    read = subst (λ w. IsScored w word T) (sym same_width) s;
+    read = rw same_width s;
     written = ap counts_text (e ∙ sym (same_vector g T));
   }
 
@@ -158,8 +158,7 @@ module _ (g : Grammar) where
 
       pub stages_fit : (shape : Shape) → IsShapeOf g shape → length answer.stages.items ≤ length shape.phases.items
       stages_fit shape s =
-          let phases : length shape.phases.items ≡ length g.constraints.items + 1 = ap length s.phases
-          ∙ length-stretch_counts g.constraints.items in
+          let phases = ap length s.phases ∙ length-stretch_counts _ in
           omega (arith, phases, made.right.stage_count)
 
   -- ---- the text
@@ -173,12 +172,9 @@ module _ (g : Grammar) where
   -- the widths that the shape of a grammar gives are those of each problem that is asked
   pub same_shape_widths : (shape : Shape) → IsShapeOf g shape → (u : List (List Sym))
       → widths_of shape ≡ text_widths (problem_from g.tiers g.constraints.items u)
-  same_shape_widths shape s u =
-      same_widths (widths_of shape) (text_widths (problem_from g.tiers g.constraints.items u))
-      (ap (λ n. n - masked_count shape.inputs) s.width ∙ free_tiers g.tiers.kinds.items shape.inputs s.inputs)
-      s.phases
+  same_shape_widths shape s u = same_widths _ _ (ap (λ n. n - masked_count shape.inputs) s.width ∙ free_tiers _ _
+      s.inputs) s.phases
 
   pub whole_written : (shape : Shape) → IsShapeOf g shape → (answer : Answer) (u : List (List Sym))
       → answer_text (widths_of shape) answer ≡ whole_text (problem_from g.tiers g.constraints.items u) answer
-  whole_written shape s answer u =
-      ap (λ (w : Widths). answer_text w answer) (same_shape_widths shape s u)
+  whole_written shape s answer u = ap (λ (w : Widths). answer_text w answer) (same_shape_widths _ s u)

@@ -35,7 +35,7 @@ module _ (g : GrammarValue) (form : List ℕ) (budget : ℕ) (bytes : List ℕ) 
 
   tableau_steps : (x : Finding) → FindsForTableau g form budget bytes x
       → RefusesForm g form x ⊎ (Long x ⊎ (NoRows x ⊎ WithRows x))
-  tableau_steps (no_form word cause) a = inl (form_refused g form word cause a)
+  tableau_steps (no_form word cause) a = inl (form_refused g form _ _ a)
   tableau_steps (long_second word) a = inr (inl (ap long_second a.0, a.1))
   tableau_steps (no_rows row cause) a = inr (inr (inl (record { value = (row, cause); is = refl; fact = a })))
   tableau_steps (over_budget entry stage) a =
@@ -68,22 +68,17 @@ module _ (g : GrammarValue) (form : List ℕ) (budget : ℕ) (bytes : List ℕ) 
       → IsAsked g form q → IsNoRowsFile bytes at.0 at.1 q
   refused_at at o q a = record {
     within = o.fact.within;
-    refused = refused_alike o.problem q (o.is_asked.tiers
-        ∙ sym a.tiers) (one_form g form o.problem q o.is_asked a) (lines bytes) at.0 at.1 o.fact.refused;
+    refused = refused_alike _ q (o.is_asked.tiers ∙ sym a.tiers) (one_form g _ _ q o.is_asked a) _ _ _ o.fact.refused;
   }
 
   no_rows_apart : (x y : Finding) → NoRows x → WithRows y → ⊥
   no_rows_apart x y n w =
       let h = has_rows y w in
-      rows_and_refused h.problem (lines bytes) h.fact.rows n.value.0 n.value.1 h.fact.are
-      (refused_at n.value n.fact h.problem h.is_asked).refused
+      rows_and_refused _ _ _ _ _ h.fact.are (refused_at _ n.fact _ h.is_asked).refused
 
   one_no_rows : (x y : Finding) → NoRows x → NoRows y → x ≡ y
-  one_no_rows =
-      one_of (λ (at : ℕ × RowsCause). no_rows at.0 at.1) (λ at. OnProblem (IsNoRowsFile bytes at.0 at.1) g form)
-      (λ a b n m.
-      let same = one_row one_cause m.problem (lines bytes) a.0 b.0 a.1 b.1
-      (refused_at a n m.problem m.is_asked).refused m.fact.refused in
+  one_no_rows = one_of _ _ (λ a b n m.
+      let same = one_row one_cause _ _ _ _ _ _ (refused_at a n _ m.is_asked).refused m.fact.refused in
       ap (λ row. no_rows row a.1) same.0 ∙ ap (no_rows b.0) same.1)
 
   one_with_rows : (x y : Finding) → WithRows x → WithRows y → x ≡ y
@@ -93,13 +88,13 @@ module _ (g : GrammarValue) (form : List ℕ) (budget : ℕ) (bytes : List ℕ) 
   NotLong x = NoRows x ⊎ WithRows x
 
   long_apart : (x y : Finding) → Long x → NotLong y → ⊥
-  long_apart x y l (inl n) = too_long 4194304 (length bytes) l.1.1 n.fact.fact.within
-  long_apart x y l (inr w) = too_long 4194304 (length bytes) l.1.1 (has_rows y w).fact.within
+  long_apart x y l (inl n) = too_long _ _ l.1.1 n.fact.fact.within
+  long_apart x y l (inr w) = too_long _ _ l.1.1 (has_rows y w).fact.within
 
   form_apart : (x y : Finding) → RefusesForm g form x → Long y ⊎ NotLong y → ⊥
   form_apart x y r (inl l) = not_refused (grammar_inputs g) g.letters form l.1.0.0 r.value l.1.0.1 r.fact
-  form_apart x y r (inr (inl n)) = refused_form g form x (IsNoRowsFile bytes n.value.0 n.value.1) r n.fact
-  form_apart x y r (inr (inr w)) = refused_form g form x (IsRowsFile bytes) r (has_rows y w)
+  form_apart x y r (inr (inl n)) = refused_form g _ x _ r n.fact
+  form_apart x y r (inr (inr w)) = refused_form g _ x _ r (has_rows y w)
 
   pub for_tableau : (x y : Finding) → FindsForTableau g form budget bytes x → FindsForTableau g form budget bytes y
       → x ≡ y

@@ -37,13 +37,11 @@ module _ (g : Grammar) (u : List (List Sym)) where
 
     pub candidates_for : (rows : List (List (List Sym))) → All (IsCandidate problem) rows
         → All (IsCandidate answered) rows
-    candidates_for rows a = subst (λ v. All (IsCandidate (problem_from g.tiers g.constraints.items v)) rows)
-        (sym right.form) a
+    candidates_for rows a = rw right.form a
 
     pub tableau_for : (rows : List (List (List Sym))) (made : Tableau) → IsTableauOf called answered rows made
         → IsTableauOf called problem rows made
-    tableau_for rows made t =
-        subst (λ v. IsTableauOf called (problem_from g.tiers g.constraints.items v) rows made) right.form t
+    tableau_for rows made t = rw right.form at t
 
   module _ (budget : ℕ) (bytes : List ℕ) where
     pub no_rows_made : (s : Status) → IsRefusal (RefusesFile problem bytes) s
@@ -68,10 +66,7 @@ module _ (g : Grammar) (form rows : List ℕ) (budget : ℕ) where
 
   pub no_form_read : (c : Change) → IsUntouched c.taking → (s : Status)
       → IsRefusal (RefusesForm (value_of g) form) s → Work c s
-  no_form_read c t s r =
-      refused_before (HasForm (value_of g) form) (FindsForTableau (value_of g) form budget)
-      (IsTableauText (value_of g) form) c t
-      (Some (rows_file rows)) (RefusesForm (value_of g) form) (form_for_tableau (value_of g) form budget) s r
+  no_form_read c t s r = refused_before _ _ _ c t _ _ (form_for_tableau (value_of g) form budget) s r
 
   module _ (u : List (List Sym)) (a : IsAsked (value_of g) form (problem g u)) where
     has_form : HasForm (value_of g) form
@@ -79,10 +74,7 @@ module _ (g : Grammar) (form rows : List ℕ) (budget : ℕ) where
 
     pub no_file_loaded : (c : Change) → IsUntouched c.taking → (s : Status)
         → IsSecondRefusal (rows_file rows) (c.held rows) (c.faults_before rows) (c.faults_after rows) s → Work c s
-    no_file_loaded c t s r =
-        second_refused (HasForm (value_of g) form) (FindsForTableau (value_of g) form budget)
-        (IsTableauText (value_of g) form) c t
-        (rows_file rows) has_form (λ bytes l. (refl, (has_form, l))) s r
+    no_file_loaded c t s r = second_refused _ _ _ c t _ has_form (λ bytes l. (refl, (has_form, l))) s r
 
     module _ (bytes : List ℕ) (within : length bytes ≤ 4194304) where
       pub no_tableau : (c : Change) → IsHeld (c.held rows) bytes → IsUntouched c.taking → (s : Status)
@@ -91,8 +83,7 @@ module _ (g : Grammar) (form rows : List ℕ) (budget : ℕ) where
         bytes = bytes;
         holds = h;
         step = inl (
-          refusal_weaker (RefusesRows (problem g u) budget bytes) (FindsForTableau (value_of g) form budget bytes)
-              (rows_for_tableau (value_of g) form budget bytes (problem g u) a) s r,
+          refusal_weaker _ _ (rows_for_tableau _ _ _ _ _ a) s r,
           t,
         );
       })
@@ -112,7 +103,7 @@ module _ (g : Grammar) (form rows : List ℕ) (budget : ℕ) where
           rows = m.rows;
           read = m.read;
           tableau = made;
-          is_tableau = subst (λ names. IsTableauOf names (problem g u) m.rows made) (sym (same_names g)) m.is_tableau;
+          is_tableau = rw (same_names g) m.is_tableau;
           written = refl;
         }
 
@@ -123,6 +114,5 @@ module _ (g : Grammar) (form rows : List ℕ) (budget : ℕ) where
         tableau_written shelf sink from to old new h r p s e = inr (record {
           bytes = bytes;
           holds = h;
-          step = written (IsTableauText (value_of g) form bytes) (tableau_text made) is_text
-              (FindsForTableau (value_of g) form budget bytes) is_ready r p s e;
+          step = written _ _ is_text (FindsForTableau (value_of g) form budget bytes) is_ready r p s e;
         })

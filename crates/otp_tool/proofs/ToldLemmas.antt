@@ -55,7 +55,7 @@ never_none (sample n) e = no_words _ _ e.are
 
 -- so there is a name
 pub some_name : (words : List (String Global)) (command : Command) → IsCommand (words_of words) command → String Global
-some_name [] command c = absurd (never_none command c)
+some_name [] command c = absurd (never_none _ c)
 some_name (name ∷ words) command c = name
 
 -- ---- what is told

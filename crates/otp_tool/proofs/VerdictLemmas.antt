@@ -33,12 +33,12 @@ has_verdict verdict g bytes text t = record {
 
 says_done : (command : Command) (g : GrammarValue) (second text : List ℕ) → Checks command
     → IsResult command g second text → HasVerdict g second Yes
-says_done (check name answer) g second text c r = has_verdict Yes g second text r
+says_done (check name answer) g second text c r = has_verdict _ g _ _ r
 says_done other g second text c r = absurd c
 
 says_no : (command : Command) (g : GrammarValue) (second text : List ℕ) → Checks command
     → IsNoResult command g second text → (fault : Fault) × HasVerdict g second (Not fault)
-says_no (check name answer) g second text c r = (r.0, has_verdict (Not r.0) g second text r.1)
+says_no (check name answer) g second text c r = (r.0, has_verdict _ g _ _ r.1)
 says_no other g second text c r = absurd c
 
 module _ (words : List (List ℕ)) (c : Change) (verdict : Verdict) (told : IsToldVerdict words c.held verdict) where
@@ -51,23 +51,19 @@ module _ (words : List (List ℕ)) (c : Change) (verdict : Verdict) (told : IsTo
       → MayRead words c.held checking bytes second → writes checking g second text → status ≡ status_of verdict)
       → IsWrittenBehind words c.held writes taken → status ≡ status_of verdict
   of_written writes taken status says w =
-      let same : w.command ≡ checking = one_command words w.command checking w.reads.are told.accepts.are in
-      let reads = subst (λ (k : Command). MayRead words c.held k w.bytes w.second) same w.reads in
-      let result = subst (λ (k : Command). OnGrammar (λ g. writes k g w.second w.text) w.bytes) same w.result in
+      let same = one_command _ _ _ w.reads.are told.accepts.are in
+      let reads = rw same at w.reads in
+      let result = rw same at w.result in
       says result.grammar w.bytes w.second w.text result.file reads result.fact
 
   of_done : (s : Status) → s ≡ Done → IsOutcome words c s → Done ≡ status_of verdict
-  of_done s e o = of_written IsResult _ Done
-      (λ g bytes second text file reads r. told.only bytes second reads Yes
-      (record { grammar = g; file = file; fact = says_done checking g second text told.checks r }))
-      (subst (IsOutcome words c) e o).1
+  of_done s e o = of_written _ _ _ (λ g bytes second text file reads r. told.only bytes second reads Yes
+      (record { grammar = g; file = file; fact = says_done _ g _ _ told.checks r })) (rw e at o).1
 
   of_no : (s : Status) → s ≡ No → IsOutcome words c s → No ≡ status_of verdict
-  of_no s e o = of_written IsNoResult _ No
-      (λ g bytes second text file reads r.
-      let v = says_no checking g second text told.checks r in
-      told.only bytes second reads (Not v.0) (record { grammar = g; file = file; fact = v.1 }))
-      (subst (IsOutcome words c) e o).1
+  of_no s e o = of_written _ _ No (λ g bytes second text file reads r.
+      let v = says_no _ g _ _ told.checks r in
+      told.only bytes second reads (Not v.0) (record { grammar = g; file = file; fact = v.1 })) (rw e at o).1
 
   by_end : (s : Status) → IsOutcome words c s → (s ≡ Done) ⊎ ((s ≡ No) ⊎ (s ≡ NoMemory))
       → (s ≡ status_of verdict) ⊎ (s ≡ NoMemory)
@@ -80,7 +76,7 @@ pub settled : (words : List (List ℕ)) (c : Change) (s : Status) → IsOutcome 
     → ((word : ℕ) → HasReadFault words c.held c.faults_before c.faults_after word → ⊥)
     → (Rose c.taking.before c.taking.after → ⊥) → (s ≡ status_of verdict) ⊎ (s ≡ NoMemory)
 settled words c s o verdict told unread unwritten =
-    by_end words c verdict told s o (complete words c s o told.accepts unread unwritten)
+    by_end _ c _ told s o (complete _ c s o told.accepts unread unwritten)
 
 -- ---- what is told
 

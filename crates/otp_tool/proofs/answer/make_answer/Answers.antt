@@ -6,25 +6,18 @@ use Rattle.otp_tool.proofs.{RefusalLemmas.{budget_for_answer, form_for_answer, r
 use Rattle.otp_tool.proofs.answer.make_answer.Goals as goal
 
 pub returns-in-Ok-clause-ok : goal.returns-in-Ok-clause-ok
-returns-in-Ok-clause-ok c =
-    made_for c.args.grammar.now c.args.word.now c.args.budget c.in-Ok.form c.in-Ok.ensures.ok c.in-Ok.ensures.form
-    c.in-Ok.ensures.short c.answer_for.result c.answer_for.ensures.right c.answer_for.ensures.joined
-    c.answer_for.ensures.within c.answer_for.ensures.listed
+returns-in-Ok-clause-ok c = made_for c.args.grammar.now _ _ _ c.in-Ok.ensures.ok c.in-Ok.ensures.form
+    c.in-Ok.ensures.short _ c.answer_for.ensures.right c.answer_for.ensures.joined c.answer_for.ensures.within
+    c.answer_for.ensures.listed
 
 pub returns-in-Ok-clause-err : goal.returns-in-Ok-clause-err
 returns-in-Ok-clause-err c =
     let g = value_of c.args.grammar.now in
     let problem = problem_from c.args.grammar.now.tiers c.args.grammar.now.constraints.items c.in-Ok.form in
     let word = c.args.word.now in
-    IfErr-weaker c.answer_for.result (IsRefusal (RefusesBudget problem c.args.budget))
-    (IsRefusal (FindsForAnswer g word c.args.budget))
-    (refusal_weaker (RefusesBudget problem c.args.budget) (FindsForAnswer g word c.args.budget)
-    (budget_for_answer g word c.args.budget problem c.in-Ok.ensures.ok))
-    c.answer_for.ensures.err
+    IfErr-weaker _ _ _ (refusal_weaker _ _ (budget_for_answer g _ _ _ c.in-Ok.ensures.ok)) c.answer_for.ensures.err
 
 pub returns-in-Err-clause-err : goal.returns-in-Err-clause-err
 returns-in-Err-clause-err c =
     let g = value_of c.args.grammar.now in
-    refusal_weaker (RefusesForm g c.args.word.now) (FindsForAnswer g c.args.word.now c.args.budget)
-    (form_for_answer g c.args.word.now c.args.budget)
-    c.in-Err.status c.in-Err.ensures.err
+    refusal_weaker _ _ (form_for_answer g c.args.word.now c.args.budget) _ c.in-Err.ensures.err

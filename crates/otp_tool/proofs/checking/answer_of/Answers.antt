@@ -8,7 +8,6 @@ returns-in-Err-At-clause-err c = (
   record {
     value = record { line = c.in-Err-At.line; cause = c.in-Err-At.cause };
     is = refl;
-    fact = subst (λ e. Fails e (answer_of c.args.shape.now c.args.bytes.now)) c.in-Err-At.field-0-is
-        c.in-Err-At.ensures.err;
+    fact = rw c.in-Err-At.field-0-is at c.in-Err-At.ensures.err;
   },
 )

@@ -7,19 +7,14 @@ pub returns-in-Err-clause-step : goal.returns-in-Err-clause-step
 returns-in-Err-clause-step g c = inl (inl (tt, refl))
 
 pub returns-in-Err-answer_of-clause-step : goal.returns-in-Err-answer_of-clause-step
-returns-in-Err-answer_of-clause-step g c =
-    no_answer_read c.args.grammar.now c.args.bytes.now c.requires c.in-Ok.shape c.in-Ok.ensures
-    (taking_of g.O.Sink c.args.sink.now c.args.sink.now) refl
-    c.in-Err-answer_of.status c.in-Err-answer_of.ensures.err
+returns-in-Err-answer_of-clause-step g c = no_answer_read _ _ c.requires _ c.in-Ok.ensures _ refl _
+    c.in-Err-answer_of.ensures.err
 
 pub check-requires : goal.check-requires
-check-requires g c =
-    is_readable c.args.grammar.now c.args.bytes.now c.requires c.in-Ok.shape c.in-Ok.ensures
-    c.in-Ok-answer_of.answer c.in-Ok-answer_of.ensures.ok c.in-Ok-answer_of.ensures.readable
+check-requires g c = is_readable _ _ c.requires _ c.in-Ok.ensures _ c.in-Ok-answer_of.ensures.ok
+    c.in-Ok-answer_of.ensures.readable
 
 pub returns-in-Ok-check-clause-step : goal.returns-in-Ok-check-clause-step
-returns-in-Ok-check-clause-step g c =
-    verdict_written c.args.grammar.now c.args.bytes.now c.requires c.in-Ok.shape c.in-Ok.ensures
-    c.in-Ok-answer_of.answer c.in-Ok-answer_of.ensures.ok c.in-Ok-answer_of.ensures.readable
-    c.in-Ok-check.verdict c.in-Ok-check.ensures.verdict c.in-Ok-check.ensures.sound
-    c.put_verdict.result c.put_verdict.ensures c.verdict_status.result c.verdict_status.ensures
+returns-in-Ok-check-clause-step g c = verdict_written _ _ c.requires _ c.in-Ok.ensures _ c.in-Ok-answer_of.ensures.ok
+    c.in-Ok-answer_of.ensures.readable _ c.in-Ok-check.ensures.verdict c.in-Ok-check.ensures.sound _
+    c.put_verdict.ensures _ c.verdict_status.ensures

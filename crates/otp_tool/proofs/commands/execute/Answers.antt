@@ -11,16 +11,9 @@ returns-in-Ok-clause-outcome g c =
     let value = value_of c.in-Ok.grammar in
     let change = change_of g.F.Shelf g.O.Sink c.grammar_of.new.shelf c.perform.new.shelf c.args.sink.now
     c.perform.new.sink in
-    let work = work_of_before (g.F.Shelf.held c.args.shelf.now)
-    (g.F.Shelf.faults c.args.shelf.now) change c.grammar_of.ensures.held c.grammar_of.ensures.never_falls
-    command value c.perform.result c.perform.ensures.work in
-    (λ words are.
-    by_work words (change_of g.F.Shelf g.O.Sink c.args.shelf.now c.perform.new.shelf c.args.sink.now c.perform.new.sink)
-    command are value c.in-Ok.ensures.ok c.perform.result work)
+    let work = work_of_before _ _ _ c.grammar_of.ensures.held c.grammar_of.ensures.never_falls _ _ _
+    c.perform.ensures.work in
+    (λ words are. by_work _ _ _ are _ c.in-Ok.ensures.ok _ work)
 
 pub returns-in-Err-clause-outcome : goal.returns-in-Err-clause-outcome
-returns-in-Err-clause-outcome g c =
-    (λ words are.
-    by_load words (change_of g.F.Shelf g.O.Sink c.args.shelf.now c.grammar_of.new.shelf c.args.sink.now
-    c.args.sink.now)
-    (command_seen c.args.command.now) are refl c.in-Err.status c.in-Err.ensures.err)
+returns-in-Err-clause-outcome g c = (λ words are. by_load _ _ _ are refl _ c.in-Err.ensures.err)

@@ -6,28 +6,17 @@ use Rattle.otp_tool.specs.{Files.{faults_of, grammar_told}, Steps.{IsLoadRefusal
 use Rattle.otp_tool.proofs.commands.grammar_of.Goals as goal
 
 pub returns-in-Some-clause-ok : goal.returns-in-Some-clause-ok
-returns-in-Some-clause-ok g c =
-    subst (λ (file : Option (List ℕ)). IfOk c.load_grammar.result
-    (λ grammar. IsLoaded (grammar_told (g.F.Shelf.held c.args.shelf.now) file) (value_of grammar)))
-    (sym c.in-Some.ensures) c.load_grammar.ensures.ok
+returns-in-Some-clause-ok g c = rw c.in-Some.ensures c.load_grammar.ensures.ok
 
 pub returns-in-Some-clause-err : goal.returns-in-Some-clause-err
-returns-in-Some-clause-err g c =
-    subst (λ (file : Option (List ℕ)). IfErr c.load_grammar.result
-    (IsLoadRefusal (grammar_told (g.F.Shelf.held c.args.shelf.now) file)
-    (faults_of (g.F.Shelf.faults c.args.shelf.now) file)
-    (faults_of (g.F.Shelf.faults c.load_grammar.new.shelf) file)))
-    (sym c.in-Some.ensures) c.load_grammar.ensures.err
+returns-in-Some-clause-err g c = rw c.in-Some.ensures c.load_grammar.ensures.err
 
 pub returns-in-Some-clause-others : goal.returns-in-Some-clause-others
 returns-in-Some-clause-others g c = λ other unnamed.
     c.load_grammar.ensures.others other (λ e. unnamed (c.in-Some.ensures ∙ ap Some (sym e)))
 
 pub returns-in-None-clause-ok : goal.returns-in-None-clause-ok
-returns-in-None-clause-ok g c =
-    subst (λ (file : Option (List ℕ)). IfOk c.sample_grammar.result
-    (λ grammar. IsLoaded (grammar_told (g.F.Shelf.held c.args.shelf.now) file) (value_of grammar)))
-    (sym c.in-None.ensures) c.sample_grammar.ensures.ok
+returns-in-None-clause-ok g c = rw c.in-None.ensures c.sample_grammar.ensures.ok
 
 pub returns-in-None-clause-err : goal.returns-in-None-clause-err
 returns-in-None-clause-err g c =
@@ -35,4 +24,4 @@ returns-in-None-clause-err g c =
     IsLoadRefusal (grammar_told (g.F.Shelf.held c.args.shelf.now) file)
     (faults_of (g.F.Shelf.faults c.args.shelf.now) file) (faults_of (g.F.Shelf.faults c.args.shelf.now) file) in
     IfErr-weaker c.sample_grammar.result (λ status. status ≡ NoMemory) (refuses _)
-    (λ status e. subst (refuses _) (sym e) tt) c.sample_grammar.ensures.err
+    (λ status e. rw e tt) c.sample_grammar.ensures.err

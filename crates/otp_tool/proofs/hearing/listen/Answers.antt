@@ -9,38 +9,25 @@ use Rattle.otp_tool.proofs.HearingLemmas.{hits_written, no_entry, no_lexicon_loa
 use Rattle.otp_tool.proofs.hearing.listen.Goals as goal
 
 pub returns-in-Err-clause-work : goal.returns-in-Err-clause-work
-returns-in-Err-clause-work g c =
-    no_surface c.args.grammar.now c.args.surface.now c.args.lexicon.now c.args.budget
-    (change_of g.F.Shelf g.O.Sink c.args.shelf.now c.args.shelf.now c.args.sink.now c.args.sink.now) refl
-    c.in-Err.status c.in-Err.ensures.err
+returns-in-Err-clause-work g c = no_surface c.args.grammar.now _ c.args.lexicon.now c.args.budget _ refl _
+    c.in-Err.ensures.err
 
 pub returns-in-Err-load_second-clause-work : goal.returns-in-Err-load_second-clause-work
-returns-in-Err-load_second-clause-work g c =
-    no_lexicon_loaded c.args.grammar.now c.args.surface.now c.args.lexicon.now c.args.budget c.in-Ok.surface
-    c.in-Ok.ensures.ok
-    (change_of g.F.Shelf g.O.Sink c.args.shelf.now c.load_second.new.shelf c.args.sink.now c.args.sink.now) refl
-    c.in-Err-load_second.status c.in-Err-load_second.ensures.err
+returns-in-Err-load_second-clause-work g c = no_lexicon_loaded c.args.grammar.now _ _ c.args.budget _ c.in-Ok.ensures.ok
+    _ refl _ c.in-Err-load_second.ensures.err
 
 pub returns-in-Err-lexicon_of-clause-work : goal.returns-in-Err-lexicon_of-clause-work
 returns-in-Err-lexicon_of-clause-work g c =
-    let same : c.deref.result.now ≡ c.in-Ok-load_second.bytes.items = c.deref.ensures.value in
-    no_lexicon_read c.args.grammar.now c.args.surface.now c.args.lexicon.now c.args.budget c.in-Ok.surface
-    c.in-Ok.ensures.ok c.deref.result.now
-    (change_of g.F.Shelf g.O.Sink c.args.shelf.now c.load_second.new.shelf c.args.sink.now c.args.sink.now)
-    (subst (IsHeld (g.F.Shelf.held c.args.shelf.now c.args.lexicon.now)) (sym same) c.in-Ok-load_second.ensures.ok) refl
-    c.in-Err-lexicon_of.status c.in-Err-lexicon_of.ensures.err
+    let same = c.deref.ensures.value in
+    no_lexicon_read c.args.grammar.now _ _ c.args.budget _ c.in-Ok.ensures.ok _ _
+    (rw same c.in-Ok-load_second.ensures.ok) refl _ c.in-Err-lexicon_of.ensures.err
 
 pub returns-clause-work : goal.returns-clause-work
 returns-clause-work g c =
-    let same : c.deref.result.now ≡ c.in-Ok-load_second.bytes.items = c.deref.ensures.value in
+    let same = c.deref.ensures.value in
     let ask = problem_from c.args.grammar.now.tiers c.args.grammar.now.constraints.items in
-    no_entry c.args.grammar.now c.args.surface.now c.args.lexicon.now c.args.budget c.in-Ok.surface
-    c.in-Ok.ensures.ok c.deref.result.now c.in-Ok-lexicon_of.entries.items c.in-Ok-lexicon_of.ensures.ok
-    (change_of g.F.Shelf g.O.Sink c.args.shelf.now c.load_second.new.shelf c.args.sink.now c.args.sink.now)
-    (subst (IsHeld (g.F.Shelf.held c.args.shelf.now c.args.lexicon.now)) (sym same) c.in-Ok-load_second.ensures.ok) refl
-    c.in-Err-heard.status
-    (subst (λ (es : List Entry). IsRefusal (RefusesEntry ask (forms_of es) c.args.budget) c.in-Err-heard.status)
-    c.deref-2.ensures.value c.in-Err-heard.ensures.err)
+    no_entry c.args.grammar.now _ _ _ _ c.in-Ok.ensures.ok _ _ c.in-Ok-lexicon_of.ensures.ok _
+    (rw same c.in-Ok-load_second.ensures.ok) refl _ (rw c.deref-2.ensures.value at c.in-Err-heard.ensures.err)
 
 pub returns-in-Ok-heard-clause-work : goal.returns-in-Ok-heard-clause-work
 returns-in-Ok-heard-clause-work g c =

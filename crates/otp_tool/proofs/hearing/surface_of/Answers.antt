@@ -5,14 +5,9 @@ use Rattle.otp_tool.proofs.HearingLemmas.{is_read, refused_surface}
 use Rattle.otp_tool.proofs.hearing.surface_of.Goals as goal
 
 pub returns-in-Ok-clause-ok : goal.returns-in-Ok-clause-ok
-returns-in-Ok-clause-ok c =
-    is_read c.args.grammar.now c.args.word.now c.in-Ok.surface
-    (subst (λ (w : List ℕ). IsTextOf (length (tiers_of_table c.args.grammar.now.tiers).overt) 64 w c.in-Ok.surface)
-    c.as_bytes.ensures.value c.in-Ok.ensures.ok)
+returns-in-Ok-clause-ok c = is_read c.args.grammar.now _ _ (rw c.as_bytes.ensures.value at c.in-Ok.ensures.ok)
 
 pub returns-in-Err-clause-err : goal.returns-in-Err-clause-err
 returns-in-Err-clause-err c =
     let other : c.in-Err.cause ≢ NoMemory = search rules in
-    refused_surface c.args.grammar.now c.args.word.now c.in-Err.cause
-    (subst (λ (w : List ℕ). IsCause (length (tiers_of_table c.args.grammar.now.tiers).overt) 64 w c.in-Err.cause)
-    c.as_bytes.ensures.value (c.in-Err.ensures.err other))
+    refused_surface c.args.grammar.now _ _ (rw c.as_bytes.ensures.value at (c.in-Err.ensures.err other))

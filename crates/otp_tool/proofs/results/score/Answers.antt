@@ -11,29 +11,21 @@ use Rattle.otp_tool.proofs.results.score.Goals as goal
 pub returns-in-Err : goal.returns-in-Err
 returns-in-Err g c =
     let other : c.in-Err.cause ≢ NoMemory = search rules in
-    let refused = subst (λ (w : List ℕ). IsNotScored
-    (length c.args.grammar.now.tiers.kinds.items) w c.in-Err.cause) c.as_bytes.ensures.value
-    (c.in-Err.ensures.err other) in
+    let refused = rw c.as_bytes.ensures.value at (c.in-Err.ensures.err other) in
     record {
-      step = inl (not_scored c.args.grammar.now c.args.word.now c.in-Err.cause refused, refl);
+      step = inl (not_scored c.args.grammar.now _ _ refused, refl);
       never_falls = omega arith;
     }
 
 pub vector-requires-clause-countable : goal.vector-requires-clause-countable
-vector-requires-clause-countable g c =
-    subst (λ (cs : List Constraint). All (λ k. IsCountable k.left k.right c.in-Ok.timeline) cs)
-    (sym c.deref.ensures.value)
-    (all_countable c.args.grammar.now c.in-Ok.timeline c.in-Ok.ensures.ok.form)
+vector-requires-clause-countable g c = rw c.deref.ensures.value (all_countable c.args.grammar.now _
+    c.in-Ok.ensures.ok.form)
 
 pub returns-in-Ok-vector-clause-step : goal.returns-in-Ok-vector-clause-step
 returns-in-Ok-vector-clause-step g c =
-    let read = subst (λ (w : List ℕ). IsScored
-    (length c.args.grammar.now.tiers.kinds.items) w c.in-Ok.timeline) c.as_bytes.ensures.value c.in-Ok.ensures.ok in
-    let counts : c.in-Ok-vector.counts.items ≡ vec c.args.grammar.now.constraints.items c.in-Ok.timeline =
+    let read = rw c.as_bytes.ensures.value at c.in-Ok.ensures.ok in
+    let counts =
     c.in-Ok-vector.ensures ∙ ap (λ (cs : List Constraint). vec cs c.in-Ok.timeline) c.deref.ensures.value in
-    written (IsScoreText (value_of c.args.grammar.now) c.args.word.now) (counts_text c.deref-in-Ok-vector.result.now)
-    (scored c.args.grammar.now c.args.word.now c.in-Ok.timeline c.deref-in-Ok-vector.result.now read
-    (c.deref-in-Ok-vector.ensures.value ∙ counts))
-    (FindsForScore (value_of c.args.grammar.now) c.args.word.now)
-    (is_scored c.args.grammar.now c.args.word.now c.in-Ok.timeline read)
-    c.put_counts.result c.put_counts.ensures c.write_status.result c.write_status.ensures
+    written _ _ (scored c.args.grammar.now _ _ _ read (c.deref-in-Ok-vector.ensures.value ∙ counts))
+    (FindsForScore (value_of c.args.grammar.now) c.args.word.now) (is_scored c.args.grammar.now _ _ read) _
+    c.put_counts.ensures _ c.write_status.ensures

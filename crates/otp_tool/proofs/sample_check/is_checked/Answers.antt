@@ -6,7 +6,4 @@ use Rattle.otp_tool.specs.Answers.{IsJudged}
 use Rattle.otp_tool.proofs.sample_check.is_checked.Goals as goal
 
 pub returns : goal.returns
-returns c =
-    subst (λ (bytes : List ℕ). IfOk c.is_faultless.result
-    (λ faultless. IsTrue faultless ↔ IsJudged (value_of c.args.grammar.now) bytes Yes))
-    (c.bytes-bytes.ensures ∙ c.in_ok-sink.ensures) c.is_faultless.ensures
+returns c = rw (c.bytes-bytes.ensures ∙ c.in_ok-sink.ensures) at c.is_faultless.ensures

@@ -7,26 +7,20 @@ use Rattle.otp_tool.proofs.sample_check.is_faultless.Goals as goal
 pub returns-in-Err-At : goal.returns-in-Err-At
 returns-in-Err-At c = (
   (λ f. absurd (false≢true f)),
-  (λ j. absurd (not_judged c.args.grammar.now c.args.bytes.now c.requires.within c.args.shape.now c.requires.shape
-      (record { line = c.in-Err-At.field-0-0; cause = c.in-Err-At.field-0-1 })
-      (subst (λ e. Fails e (answer_of c.args.shape.now c.args.bytes.now)) c.in-Err-At.field-0-is
-      c.in-Err-At.ensures.err) j)),
+  (λ j. absurd (not_judged _ _ c.requires.within _ c.requires.shape _ (rw c.in-Err-At.field-0-is
+      at c.in-Err-At.ensures.err) j)),
 )
 
 pub returns-in-Yes : goal.returns-in-Yes
 returns-in-Yes c = (
-  (λ t. is_yes c.args.grammar.now c.args.bytes.now c.requires.within c.args.shape.now c.requires.shape
-      c.in-Ok.answer c.in-Ok.ensures.ok c.in-Ok.ensures.readable
-      (subst (IsVerdict (asked_by c.args.grammar.now c.in-Ok.answer) c.in-Ok.answer) c.in-Yes.is
-      c.in_ok-check.ensures.verdict)),
+  (λ t. is_yes _ _ c.requires.within _ c.requires.shape _ c.in-Ok.ensures.ok c.in-Ok.ensures.readable
+      (rw c.in-Yes.is at c.in_ok-check.ensures.verdict)),
   (λ j. refl),
 )
 
 pub returns : goal.returns
 returns c = (
   (λ f. absurd (false≢true f)),
-  (λ j. absurd (is_not_yes c.args.grammar.now c.args.bytes.now c.requires.within c.args.shape.now c.requires.shape
-      c.in-Ok.answer c.in-Ok.ensures.ok c.in-Ok.ensures.readable c.in-No.field-0
-      (subst (IsVerdict (asked_by c.args.grammar.now c.in-Ok.answer) c.in-Ok.answer) c.in-No.is
-      c.in_ok-check.ensures.verdict) j)),
+  (λ j. absurd (is_not_yes _ _ c.requires.within _ c.requires.shape _ c.in-Ok.ensures.ok c.in-Ok.ensures.readable _
+      (rw c.in-No.is at c.in_ok-check.ensures.verdict) j)),
 )

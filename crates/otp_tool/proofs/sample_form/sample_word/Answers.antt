@@ -8,9 +8,7 @@ pub loop-preserved : goal.loop-preserved
 loop-preserved c =
     let is = c.in_ok-push.ensures.bytes
     ∙ ap (λ xs. string_bytes c.loop.word ++ xs) (c.in_ok-push.ensures.ascii c.sample_letter.ensures.ascii) in record {
-      word = word_next (string_bytes c.loop.word) (string_bytes c.push.new.self) (sample_word c.args.letters)
-          (c.args.letters - c.loop.counter) (c.args.letters - (c.loop.counter + 1)) c.loop.number
-          c.next_number-number.result c.sample_letter.result (omega (arith, c.loop-test.true))
-          c.next_number-number.ensures.value c.sample_letter.ensures.value is c.loop.invariant.word;
+      word = word_next _ _ _ _ _ _ _ _ (omega (arith, c.loop-test.true)) c.next_number-number.ensures.value
+          c.sample_letter.ensures.value is c.loop.invariant.word;
       small = c.next_number-number.ensures.small;
     }

@@ -13,14 +13,10 @@ returns-in-Ok-summed_up-clause-step g c =
     let letters = c.args.letters in
     let answer = c.in-Ok-make_answer.answer in
     let summary = c.in-Ok-summed_up.summary in
-    let made = subst (λ (word : List ℕ). IsAnswerFor grammar.tiers grammar.constraints.items
-    (value_of grammar) word 20000
-    answer) (c.as_str.ensures.value ∙ c.in-Ok.ensures) c.in-Ok-make_answer.ensures.ok in
-    let puts = subst (λ (text : List ℕ). Puts g.O.Sink c.args.sink.now c.put_sample.new.sink text c.put_sample.result)
-    (text_is letters answer summary.faultless c.as_bytes.result.now summary.pairs
-    (c.as_bytes.ensures.value ∙ c.in-Ok.ensures) c.in-Ok-summed_up.ensures.pairs) c.put_sample.ensures in
-    written (IsSampleText letters (value_of grammar)) (sample_text letters answer summary.faultless)
-    (record {
+    let made = rw (c.as_str.ensures.value ∙ c.in-Ok.ensures) at c.in-Ok-make_answer.ensures.ok in
+    let puts = rw (text_is letters answer summary.faultless c.as_bytes.result.now summary.pairs
+    (c.as_bytes.ensures.value ∙ c.in-Ok.ensures) c.in-Ok-summed_up.ensures.pairs) at c.put_sample.ensures in
+    written _ _ (record {
       problem = problem_from grammar.tiers grammar.constraints.items made.u;
       is_asked = made.is_asked;
       answer = answer;
@@ -29,7 +25,5 @@ returns-in-Ok-summed_up-clause-step g c =
       faultless = summary.faultless;
       checked = c.in-Ok-summed_up.ensures.checked made.u;
       written = refl;
-    })
-    (FindsForAnswer (value_of grammar) (sample_word letters) 20000)
-    (made_ready grammar (sample_word letters) 20000 answer made)
-    c.put_sample.result puts c.write_status.result c.write_status.ensures
+    }) (FindsForAnswer (value_of grammar) (sample_word letters) 20000) (made_ready grammar _ _ _ made) _ puts _
+    c.write_status.ensures

@@ -17,7 +17,5 @@ is_checked-requires-clause-stages c =
     )
 
 pub returns-in-Ok-clause-checked : goal.returns-in-Ok-clause-checked
-returns-in-Ok-clause-checked c = λ u.
-    subst (λ (text : List ℕ). IsTrue c.in_ok-faultless.faultless ↔ IsJudged (value_of c.args.grammar.now) text Yes)
-    (whole_written c.args.grammar.now c.in_ok-shape.shape c.in_ok-shape.ensures c.args.answer.now u)
-    c.in_ok-faultless.ensures
+returns-in-Ok-clause-checked c = λ u. rw (whole_written c.args.grammar.now c.in_ok-shape.shape c.in_ok-shape.ensures
+    c.args.answer.now u) at c.in_ok-faultless.ensures

@@ -7,42 +7,27 @@ use Rattle.otp_tool.proofs.TableauLemmas.{tableau_for}
 use Rattle.otp_tool.proofs.tableaux.make_tableau.Goals as goal
 
 pub returns-in-Err-clause-err : goal.returns-in-Err-clause-err
-returns-in-Err-clause-err c =
-    no_rows_made c.args.grammar.now c.args.form.now c.args.budget c.args.bytes.now c.in-Err.status c.in-Err.ensures.err
+returns-in-Err-clause-err c = no_rows_made c.args.grammar.now c.args.form.now _ _ _ c.in-Err.ensures.err
 
 pub returns-in-Err-answer_for-clause-err : goal.returns-in-Err-answer_for-clause-err
-returns-in-Err-answer_for-clause-err c =
-    not_within c.args.grammar.now c.args.form.now c.args.budget c.args.bytes.now c.in-Ok.rows.items c.requires.within
-    c.in-Ok.ensures.ok
-    c.in-Err-answer_for.status c.in-Err-answer_for.ensures.err
+returns-in-Err-answer_for-clause-err c = not_within c.args.grammar.now c.args.form.now _ _ _ c.requires.within
+    c.in-Ok.ensures.ok _ c.in-Err-answer_for.ensures.err
 
 pub tableau-requires-clause-right : goal.tableau-requires-clause-right
-tableau-requires-clause-right c = right_for c.args.grammar.now c.args.form.now c.in-Ok-answer_for.answer
-    c.in-Ok-answer_for.ensures.right
+tableau-requires-clause-right c = right_for c.args.grammar.now c.args.form.now _ c.in-Ok-answer_for.ensures.right
 
 pub tableau-requires-clause-candidates : goal.tableau-requires-clause-candidates
-tableau-requires-clause-candidates c =
-    subst (λ (rows : List (List (List Sym))). All
-    (IsCandidate (problem_from c.args.grammar.now.tiers c.args.grammar.now.constraints.items
-    c.in-Ok-answer_for.answer.form)) rows)
-    (sym c.deref.ensures.value)
-    (candidates_for c.args.grammar.now c.args.form.now c.in-Ok-answer_for.answer c.in-Ok-answer_for.ensures.right
-    c.in-Ok.rows.items c.in-Ok.ensures.ok.candidates)
+tableau-requires-clause-candidates c = rw c.deref.ensures.value (candidates_for c.args.grammar.now c.args.form.now _
+    c.in-Ok-answer_for.ensures.right _ c.in-Ok.ensures.ok.candidates)
 
 pub tableau-requires-clause-few_columns : goal.tableau-requires-clause-few_columns
-tableau-requires-clause-few_columns c =
-    subst (λ (rows : List (List (List Sym))). All (λ T. length T ≤ 65536) rows) (sym c.deref.ensures.value)
-    (few_columns c.in-Ok.rows.items c.in-Ok.ensures.ok.within)
+tableau-requires-clause-few_columns c = rw c.deref.ensures.value (few_columns _ c.in-Ok.ensures.ok.within)
 
 pub returns-in-Ok-tableau-clause-ok : goal.returns-in-Ok-tableau-clause-ok
 returns-in-Ok-tableau-clause-ok c = record {
   rows = c.in-Ok.rows.items;
   read = c.in-Ok.ensures.ok;
-  is_tableau = tableau_for c.args.grammar.now c.args.form.now c.in-Ok-answer_for.answer c.in-Ok-answer_for.ensures.right
-      c.in-Ok.rows.items c.in-Ok-tableau.made
-      (subst (λ (rows : List (List (List Sym))). IsTableauOf (names_seen c.args.grammar.now.constraints.items)
-      (problem_from c.args.grammar.now.tiers c.args.grammar.now.constraints.items c.in-Ok-answer_for.answer.form) rows
-      c.in-Ok-tableau.made)
-      c.deref.ensures.value c.in-Ok-tableau.ensures);
+  is_tableau = tableau_for c.args.grammar.now c.args.form.now _ c.in-Ok-answer_for.ensures.right _ _
+      (rw c.deref.ensures.value at c.in-Ok-tableau.ensures);
   within = c.in-Ok-answer_for.ensures.within;
 }

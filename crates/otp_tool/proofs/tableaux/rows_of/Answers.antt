@@ -13,8 +13,7 @@ returns-in-Err-At-clause-err c =
         is = refl;
         fact = record {
           within = c.requires;
-          refused = subst (IsTextRefusal problem
-              (lines c.args.bytes.now)) c.in-Err-At.field-0-is c.in-Err-At.ensures.err;
+          refused = rw c.in-Err-At.field-0-is at c.in-Err-At.ensures.err;
         };
       },
     )

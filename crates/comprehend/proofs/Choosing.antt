@@ -4,7 +4,8 @@ use Rattle.std.proofs.Common.{inl, inr}
 use Rattle.std.specs.{Prelude.Contains, Ordering.is_gt}
 use Rattle.tier_core.specs.{declared.sym.Sym.Sym, declared.class.Class.Class, Orders.column_cmp}
 use Rattle.answer_text.specs.{declared.automaton.StateLine.StateLine, Right.numbers_of}
-use Rattle.comprehend.specs.{declared.choice.Choice.Choice, Searches.{IsLeft, HasStep, IsLeastStep}}
+use Rattle.first_paths.specs.Search.{HasStep, IsLeastStep}
+use Rattle.comprehend.specs.{declared.choice.Choice.Choice, Searches.IsLeft}
 use Rattle.comprehend.specs.{Steps.{arcs_at, Goes, Turns}, Choices.{IsBetter, LeadsByOne}}
 use Rattle.comprehend.proofs.Cells.{one_cell}
 
@@ -52,7 +53,7 @@ module _ (states : List StateLine) (tests : List Class) (left : List ℕ) (n v s
   module _ (result : Option Choice) (best : IsBetter
       (LeadsByOne (numbers_of states) tests p left n (arcs_at states s)) None result) where
     pub chosen : (choice : Choice) → result ≡ Some choice
-        → IsLeastStep (Goes states tests) left v n choice.column choice.cell
+        → IsLeastStep (Goes states tests) (IsLeft left) v n choice.column choice.cell
     chosen choice e = go best.from
       where
         least : (other : List Sym) (x : ℕ) → Goes states tests v other x → IsLeft left x n
@@ -66,7 +67,7 @@ module _ (states : List StateLine) (tests : List Class) (left : List ℕ) (n v s
 
         go : (None ≡ result) ⊎ ((b : Choice) ×
             ((result ≡ Some b) × LeadsByOne (numbers_of states) tests p left n (arcs_at states s) b.column b.cell))
-            → IsLeastStep (Goes states tests) left v n choice.column choice.cell
+            → IsLeastStep (Goes states tests) (IsLeft left) v n choice.column choice.cell
         go (inl none) = absurd (let no : None ≡ Some choice = none ∙ e in let f : ⊥ = cc in f)
         go (inr b) =
             (let both : Some b.0 ≡ Some choice = sym b.1.0 ∙ e in
@@ -76,7 +77,7 @@ module _ (states : List StateLine) (tests : List Class) (left : List ℕ) (n v s
             let own : P choice = subst P same b.1.1 in
             record { steps = leads_goes choice.column choice.cell own; nearer = own.along.left_at; least = least })
 
-    pub none_chosen : result ≡ None → HasStep (Goes states tests) left v n → ⊥
+    pub none_chosen : result ≡ None → HasStep (Goes states tests) (IsLeft left) v n → ⊥
     none_chosen e some =
         let b = best.covers some.0 some.1 (goes_leads some.0 some.1 some.2.0 some.2.1) in
         let no : None ≡ Some b.0 = sym e ∙ b.1.0 in

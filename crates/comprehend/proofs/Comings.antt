@@ -14,14 +14,14 @@ module _ (states : List StateLine) (tests : List Class) (into : List (Vec Enteri
     (inside : q < length tests) where
   pub comes_goes : (v : ℕ) → ComesByOne tests (entering_at into t) q v
       → (column : List Sym) × Goes states tests v column w
-  comes_goes v from = go from.1.1
+  comes_goes v from = go from.2
     where
       entry : Entering
       entry = from.0
 
       own : (arc : ArcLine) × (IsArcOf states from.0.source arc × (arc.class ≡ from.0.class) ×
           (slice_get (numbers_of states) t ≡ Some arc.target))
-      own = turned.sound t from.0 from.1.0
+      own = turned.sound t from.0 from.1
 
       holds : (column : List Sym) → IsTrue (has from.0.class column) → IsTrue (has own.0.class column)
       holds column h = (let P : Class → Type 0 = λ c. IsTrue (has c column) in subst P (sym own.1.1) h)
@@ -66,7 +66,7 @@ module _ (states : List StateLine) (tests : List Class) (into : List (Vec Enteri
 
   pub goes_comes : (v : ℕ) (column : List Sym) → Goes states tests v column w
       → ComesByOne tests (entering_at into t) q v
-  goes_comes v column goes = (entry.0, (entry.1.0, go goes.turns))
+  goes_comes v column goes = (entry.0, entry.1.0, go goes.turns)
     where
       at : (goes.target ≡ t) × (goes.next ≡ q)
       at = one_cell goes.target goes.next t q (length tests) goes.after inside (sym goes.arrives ∙ cell)

@@ -5,7 +5,7 @@ use Rattle.std.proofs.lemmas.List.{get_or-map, get_or_past, length-map}
 use Rattle.tier_core.specs.declared.class.Class.{Class}
 use Rattle.answer_text.specs.declared.automaton.StateLine.{StateLine}
 use Rattle.comprehend.specs.{Searches.Reaches, Steps.{final_at, IsEndCell}}
-use Rattle.comprehend.proofs.Reaching.{reaches_same, reaches_both}
+use Rattle.first_paths.proofs.Reaching.{reaches_same, reaches_both}
 
 -- the end of one of the first n states
 pub record IsEndBelow (states : List StateLine) (tests : List Class) (n v : ℕ) : Type 0 where

@@ -1,17 +1,17 @@
 -- One cell of a level more.
-use Rattle.std.proofs.Common.{◌≡◌, ℕ, ◌+◌, ◌*◌, ◌<◌, ◌≤◌, List, [], ◌∷◌, ◌++◌, length, get_or, map, take, sym, ap}
+use Rattle.std.proofs.Common.{◌≡◌, ℕ, ◌+◌, ◌*◌, ◌<◌, ◌≤◌, List, [], length, get_or, map, take, sym, ap}
 use Rattle.std.proofs.{Common.{◌∙◌, subst, arith, inl, inr}, lemmas.Bool.cases_lt, lemmas.Option.slice_get_cases}
-use Rattle.std.proofs.lemmas.List.{get_or-map, get_or_past, length-map, take_more}
-use Rattle.std.proofs.lemmas.List.Elements.{Contains-append_left, Contains-get_or, Contains-push}
-use Rattle.std.proofs.lemmas.List.Elements.{Contains-push_cases}
+use Rattle.std.proofs.lemmas.List.{get_or-map, get_or_past, length-map}
+use Rattle.std.proofs.lemmas.List.Elements.{Contains-get_or}
 use Rattle.std.specs.{Prelude.{All, Contains}, Global.Vec}
-use Rattle.tier_core.specs.{declared.class.Class.Class, Classes.sets_of}
+use Rattle.tier_core.specs.{declared.sym.Sym.Sym, declared.class.Class.Class, Classes.sets_of}
 use Rattle.answer_text.specs.{declared.automaton.ArcLine.ArcLine, declared.automaton.StateLine.StateLine}
 use Rattle.answer_text.specs.Right.{numbers_of}
-use Rattle.comprehend.specs.{declared.entering.Entering.Entering, Searches.{IsPredecessor, Reaches}}
+use Rattle.comprehend.specs.{declared.entering.Entering.Entering, Searches.Reaches}
 use Rattle.comprehend.specs.Steps.{arcs_at, Goes, AreSearchable}
 use Rattle.comprehend.specs.Entering.{entering_at, AreReverseArcs, IsArcOf, ComesByOne}
-use Rattle.comprehend.proofs.{Reaching.reaches_both, Cells.cells_inside, Comings.{comes_goes, goes_comes}}
+use Rattle.first_paths.{specs.Search.{IsPredecessor}, proofs.Reaching.{reaches_same, reaches_more}}
+use Rattle.comprehend.proofs.{Cells.cells_inside, Comings.{comes_goes, goes_comes}}
 
 -- the arcs of a state of the list, as they are read
 pub arcs_read : (states : List StateLine) (s : ℕ) (state : StateLine) (arcs : List ArcLine) → s < length states
@@ -68,17 +68,8 @@ module _ (states : List StateLine) (tests : List Class) (into : List (Vec Enteri
       → Reaches (ComesByOne tests (entering_at into t) q) n mid new between after
       → Reaches (IsPredecessor (Goes states tests) (take (i + 1) level)) n old new before after
   level_more n level i to t q inside is cell below old mid new before between after first second =
-      let last : take (i + 1) level ≡ take i level ++ to ∷ [] = take_more level i 0 inside
-      ∙ ap (λ x. take i level ++ x ∷ []) (sym is) in
-      let P : List ℕ → Type 0 = λ xs. Reaches (IsPredecessor (Goes states tests) xs) n old new before after in
-      subst P (sym last)
-      (reaches_both (IsPredecessor (Goes states tests) (take i level)) (ComesByOne tests (entering_at into t) q)
-      (IsPredecessor (Goes states tests) (take i level ++ to ∷ []))
-      (λ v h. elim (Contains-push_cases (take i level) to h.0 h.1.0) [
-        | inl earlier ↦ inl (h.0, (earlier, h.1.1, h.1.2))
-        | inr now ↦ inr (goes_comes states tests into turned h.0 t q (sym now ∙ cell) below v h.1.1 h.1.2)
-      ])
-      (λ v h. (h.0, (Contains-append_left (take i level) (to ∷ []) h.0 h.1.0, h.1.1, h.1.2)))
-      (λ v h. (let goes = comes_goes states tests into turned to t q cell below v h in
-      (to, (Contains-push (take i level) to, goes.0, goes.1))))
-      n old mid new before between after first second)
+      reaches_more (λ w v. (column : List Sym) × Goes states tests v column w) level i 0 to inside is n old mid new
+      before between after first
+      (reaches_same (ComesByOne tests (entering_at into t) q) (λ v. (column : List Sym) × Goes states tests v column to)
+      (comes_goes states tests into turned to t q cell below)
+      (λ v h. goes_comes states tests into turned to t q cell below v h.0 h.1) n mid new between after second)

@@ -1,6 +1,4 @@
 pub mod Reaching
-pub mod Searching
-pub mod FirstStep
 pub mod Cells
 pub mod Looks
 pub mod Ends

@@ -1,11 +1,10 @@
 -- What the looks at the cells before one give, entry by entry.
-use Rattle.std.proofs.Common.{◌≡◌, ◌↔◌, ℕ, ◌+◌, ◌*◌, ◌<◌, Bool, false, List, [], ◌∷◌, ◌++◌, length, get_or, take}
-use Rattle.std.proofs.{Common.{sym, ap, ◌∙◌, subst, arith, inl, inr, IsTrue}, lemmas.List.{get_or-map, take_more}}
-use Rattle.std.proofs.lemmas.List.Elements.{Contains-append_left, Contains-push, Contains-push_cases}
+use Rattle.std.proofs.Common.{◌≡◌, ◌↔◌, ℕ, ◌+◌, ◌*◌, ◌<◌, Bool, false, List, length, get_or}
+use Rattle.std.proofs.{Common.{sym, ap, ◌∙◌, arith, inl, inr, IsTrue}, lemmas.List.{get_or-map}}
 use Rattle.tier_core.specs.{declared.sym.Sym.Sym, declared.class.Class.Class, Classes.has}
-use Rattle.comprehend.specs.{declared.entering.Entering.Entering, Searches.Reaches, Steps.test_has}
-use Rattle.comprehend.specs.Entering.{ComesByOne, ComesBy, MeetsTest}
-use Rattle.comprehend.proofs.Reaching.{reaches_same, reaches_both}
+use Rattle.comprehend.specs.{Searches.Reaches, Steps.test_has}
+use Rattle.comprehend.specs.Entering.{ComesBy, MeetsTest}
+use Rattle.first_paths.proofs.Reaching.{reaches_same, reaches_both}
 
 -- a test at its number
 pub test_at : (tests : List Class) (k : ℕ) (test : Class) → k < length tests → test ≡ get_or tests k test
@@ -63,26 +62,3 @@ module _ (tests : List Class) (source place : ℕ) (class : Class) (n : ℕ) whe
       n old mid new before between after
       (looked 0 test (omega arith) is steps cell meets old mid before between first)
       (looked place next inside next_is on other meets_on mid new between after second)
-
--- one entry more
-pub entry_more : (tests : List Class) (place n : ℕ) (entries : List Entering) (i : ℕ) (entry : Entering)
-    → i < length entries → entry ≡ get_or entries i entry
-    → (old mid new before between after : List ℕ)
-    → Reaches (ComesByOne tests (take i entries) place) n old mid before between
-    → Reaches (ComesBy tests entry.source entry.class place) n mid new between after
-    → Reaches (ComesByOne tests (take (i + 1) entries) place) n old new before after
-entry_more tests place n entries i entry inside is old mid new before between after first second =
-    let last : take (i + 1) entries ≡ take i entries ++ entry ∷ [] = take_more entries i entry inside
-    ∙ ap (λ x. take i entries ++ x ∷ []) (sym is) in
-    let P : List Entering → Type 0 = λ xs. Reaches (ComesByOne tests xs place) n old new before after in
-    subst P (sym last)
-    (reaches_both (ComesByOne tests (take i entries) place) (ComesBy tests entry.source entry.class place)
-    (ComesByOne tests (take i entries ++ entry ∷ []) place)
-    (λ v h. elim (Contains-push_cases (take i entries) entry h.0 h.1.0) [
-      | inl earlier ↦ inl (h.0, (earlier, h.1.1))
-      | inr now ↦ (let Q : Entering → Type 0 = λ e. ComesBy tests e.source e.class place v in inr
-          (subst Q (sym now) h.1.1))
-    ])
-    (λ v h. (h.0, (Contains-append_left (take i entries) (entry ∷ []) h.0 h.1.0, h.1.1)))
-    (λ v h. (entry, (Contains-push (take i entries) entry, h)))
-    n old mid new before between after first second)

@@ -1,4 +1,4 @@
--- What one vertex, and several one after another, give to a search backward.
+-- What one vertex gives to a search backward.
 use Rattle.std.proofs.Common.{◌≡◌, ℕ, zero, suc, ◌+◌, ◌<◌, ◌≤◌, List, [], ◌∷◌, ◌++◌, set, length, get_or, refl, sym}
 use Rattle.std.proofs.{Common.{ap, ◌∙◌, subst, arith, ◌⊎◌, inl, inr, replicate}, lemmas.Bool.{cases_lt, cases_eq}}
 use Rattle.std.proofs.lemmas.Bool.Decides.{nat_tests}
@@ -28,6 +28,10 @@ known_inside left s n at = elim (cases_lt s (length left)) [
   | inl l ↦ l
   | inr l ↦ absurd (omega (arith, get_or_past left s no_distance l, at.number, at.near))
 ]
+
+-- and only one
+pub same_left : (left : List ℕ) (v m n : ℕ) → IsLeft left v m → IsLeft left v n → m ≡ n
+same_left left v m n a b = sym a.number ∙ b.number
 
 -- one vertex of which nothing was known
 pub one_unknown : (n : ℕ) (left next : List ℕ) (s : ℕ) → n < no_distance → no_distance ≤ get_or left s no_distance
@@ -79,74 +83,6 @@ one_unknown n left next s near none inside = record {
 
     number : unknown_count (set left s n) + length (next ++ s ∷ []) ≡ unknown_count left + length next
     number = omega (arith, unknown_count-set left s n none near inside, length_push next s)
-
--- where no vertex is to be reached
-pub reaches_none : (P : ℕ → Type 0) → ((v : ℕ) → P v → ⊥) → (n : ℕ) (left next : List ℕ)
-    → Reaches P n left left next next
-reaches_none P none n left next = record {
-  same = refl;
-  kept = λ v d known. known;
-  found = λ v d known. inl known;
-  reached = λ v at. absurd (none v at);
-  stays = λ v here. here;
-  listed = λ v here. inl here;
-  number = refl;
-}
-
--- the same vertices, said otherwise
-pub reaches_same : (P R : ℕ → Type 0) → ((v : ℕ) → P v → R v) → ((v : ℕ) → R v → P v)
-    → (n : ℕ) (old new before after : List ℕ) → Reaches P n old new before after → Reaches R n old new before after
-reaches_same P R into back n old new before after r = record {
-  same = r.same;
-  kept = r.kept;
-  found = λ v m known. elim (r.found v m known) [
-    | inl earlier ↦ inl earlier
-    | inr now ↦ inr
-        (now.0, into v now.1, now.2)
-  ];
-  reached = λ v at. r.reached v (back v at);
-  stays = r.stays;
-  listed = r.listed;
-  number = r.number;
-}
-
--- those of P, and then those of Q
-pub reaches_both : (P Q R : ℕ → Type 0) → ((v : ℕ) → R v → P v ⊎ Q v) → ((v : ℕ) → P v → R v) → ((v : ℕ) → Q v → R v)
-    → (n : ℕ) (old mid new before between after : List ℕ) → Reaches P n old mid before between
-    → Reaches Q n mid new between after → Reaches R n old new before after
-reaches_both P Q R split left right n old mid new before between after first second = record {
-  same = second.same ∙ first.same;
-  kept = λ v m e. second.kept v m (first.kept v m e);
-  found = found;
-  reached = reached;
-  stays = λ v here. second.stays v (first.stays v here);
-  listed = listed;
-  number = second.number ∙ first.number;
-}
-  where
-    found : (v m : ℕ) → IsLeft new v m → IsLeft old v m ⊎ ((m ≡ n) × R v × Contains after v)
-    found v m e = elim (second.found v m e) [
-      | inl known ↦ elim (first.found v m known) [
-        | inl earlier ↦ inl earlier
-        | inr now ↦ inr (now.0, left v now.1, second.stays v now.2)
-      ]
-      | inr now ↦ inr (now.0, right v now.1, now.2)
-    ]
-
-    reached : (v : ℕ) → R v → (m : ℕ) × IsLeft new v m
-    reached v r = elim (split v r) [
-      | inl p ↦ (let f = first.reached v p in (f.0, second.kept v f.0 f.1))
-      | inr p ↦ second.reached v p
-    ]
-
-    listed : (v : ℕ) → Contains after v → Contains before v ⊎ IsLeft new v n
-    listed v here = elim (second.listed v here) [
-      | inl earlier ↦ elim (first.listed v earlier) [
-        | inl first_is ↦ inl first_is
-        | inr at ↦ inr (second.kept v n at)
-      ]
-      | inr at ↦ inr at
-    ]
 
 -- numbers that are all far
 pub unknown_count-no_distance : (total : ℕ) → unknown_count (replicate total no_distance) ≡ total

@@ -10,7 +10,8 @@ use Rattle.tier_core.specs.Timelines.{has_edge, column_at, IsReduced}
 use Rattle.tier_core.proofs.ClassLemmas.{same_width}
 use Rattle.answer_text.specs.{declared.automaton.ArcLine.ArcLine, declared.automaton.StateLine.StateLine}
 use Rattle.answer_text.specs.{Acceptance.{HasArc, IsFinalState, Leads}, Right.numbers_of}
-use Rattle.comprehend.specs.{Surfaces.{heard_in, surface_of, AcceptsHeard}, Searches.ReadsFrom}
+use Rattle.first_paths.specs.Search.{ReadsFrom}
+use Rattle.comprehend.specs.Surfaces.{heard_in, surface_of, AcceptsHeard}
 use Rattle.comprehend.specs.Steps.{arcs_at, final_at, test_has, Goes, Turns, IsEndCell, ReadsAlong}
 use Rattle.comprehend.proofs.{Cells.one_cell, Ends.final_is, Levels.arcs_read, Numbers.once_at}
 

@@ -6,6 +6,7 @@ use Rattle.tier_core.specs.declared.class.Class.{Class}
 use Rattle.tier_core.specs.Classes.{has}
 use Rattle.answer_text.specs.declared.automaton.ArcLine.{ArcLine}
 use Rattle.answer_text.specs.declared.automaton.StateLine.{StateLine}
+use Rattle.first_paths.specs.Search.{LeadsToOne}
 use Rattle.comprehend.specs.declared.entering.Entering.{Entering}
 use Rattle.comprehend.specs.Steps.{arcs_at, test_has}
 
@@ -41,8 +42,7 @@ ComesBy tests source class place v =
 
 -- the cells from which one of the entering arcs leads to a place
 abbrev pub ComesByOne : List Class → List Entering → ℕ → ℕ → Type 0
-ComesByOne tests entries place v =
-    (entry : Entering) × (Contains entries entry × ComesBy tests entry.source entry.class place v)
+ComesByOne tests entries place = LeadsToOne (λ entry v. ComesBy tests entry.source entry.class place v) entries
 
 -- the arcs of the states before a position in the list
 abbrev pub IsArcBelow : List StateLine → ℕ → ℕ → ArcLine → Type 0

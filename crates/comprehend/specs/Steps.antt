@@ -7,7 +7,8 @@ use Rattle.tier_core.specs.Classes.{has, sets_of, AreDisjoint}
 use Rattle.answer_text.specs.declared.automaton.ArcLine.{ArcLine}
 use Rattle.answer_text.specs.declared.automaton.StateLine.{StateLine}
 use Rattle.answer_text.specs.Right.{numbers_of}
-use Rattle.comprehend.specs.Searches.{no_distance, ReadsFrom}
+use Rattle.first_paths.specs.Search.{ReadsFrom}
+use Rattle.comprehend.specs.Searches.{no_distance}
 
 -- the arcs of the state at this position in the list
 abbrev pub arcs_at : List StateLine → ℕ → List ArcLine

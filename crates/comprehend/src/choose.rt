@@ -1,8 +1,9 @@
 ghost use Rattle.std.specs.Prelude.{◌≡◌, ◌≢◌, ◌+◌, ◌*◌, ◌<◌, ◌≤◌, ◌^◌, ℕ, All, AllPairs, None, length};
 ghost use Rattle.tier_core.specs.Classes.{sets_of};
 ghost use Rattle.answer_text.specs.Right.{numbers_of};
+ghost use Rattle.first_paths.specs.Search.{HasStep, IsLeastStep};
 ghost use Rattle.comprehend.specs.Choices.{IsBetter, LeadsAlong, LeadsByOne};
-ghost use Rattle.comprehend.specs.Searches.{no_distance, HasStep, IsLeastStep};
+ghost use Rattle.comprehend.specs.Searches.{no_distance, IsLeft};
 ghost use Rattle.comprehend.specs.Steps.{Goes, AreSearchable};
 
 use crate::cell::cell;
@@ -90,8 +91,9 @@ pub(crate) fn choose(
     requires each { length left.now ≡ length states.now * length tests.now }
     requires from { from < length left.now }
     requires near { n < no_distance }
-    requires some { HasStep (Goes states.now tests.now) left.now from n }
-    ensures { IsLeastStep (Goes states.now tests.now) left.now from n result.column result.cell }
+    requires some { HasStep (Goes states.now tests.now) (IsLeft left.now) from n }
+    ensures { IsLeastStep (Goes states.now tests.now) (IsLeft left.now)
+        from n result.column result.cell }
 {
     let places = tests.len() as u32;
     let state = from / places;

@@ -2,7 +2,8 @@ ghost use Rattle.std.specs.Prelude.{◌≡◌, ◌≢◌, ◌*◌, ◌<◌, ℕ,
 ghost use Rattle.tier_core.specs.declared.sym.Sym.{Sym};
 ghost use Rattle.tier_core.specs.Orders.{IsFirst};
 ghost use Rattle.answer_text.specs.Right.{numbers_of};
-ghost use Rattle.comprehend.specs.Searches.{no_distance, AreLengths, IsLeft, ReadsFrom};
+ghost use Rattle.first_paths.specs.Search.{AreLengths, ReadsFrom};
+ghost use Rattle.comprehend.specs.Searches.{no_distance, IsLeft};
 ghost use Rattle.comprehend.specs.Steps.{Goes, IsEndCell, AreSearchable, AreApart, AreTestsApart, ReadsAlong};
 
 use crate::cell::cell;
@@ -32,7 +33,7 @@ fn follow(
     requires tests_apart { AreTestsApart tests.now }
     requires each { length left.now ≡ length states.now * length tests.now }
     requires lengths { AreLengths (Goes states.now tests.now)
-        (IsEndCell states.now tests.now) left.now }
+        (IsEndCell states.now tests.now) (IsLeft left.now) }
     requires start { IsLeft left.now start most }
     ensures { IfOk result
         (λ first.

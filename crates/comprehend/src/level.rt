@@ -1,7 +1,8 @@
 ghost use Rattle.std.specs.Prelude.{◌≡◌, ◌+◌, ◌*◌, ◌<◌, ◌≤◌, ℕ, [], All, IfOk, length};
 ghost use Rattle.tier_core.specs.Classes.{sets_of};
 ghost use Rattle.answer_text.specs.Right.{numbers_of};
-ghost use Rattle.comprehend.specs.Searches.{no_distance, IsPredecessor, Reaches};
+ghost use Rattle.first_paths.specs.Search.{IsPredecessor};
+ghost use Rattle.comprehend.specs.Searches.{no_distance, Reaches};
 ghost use Rattle.comprehend.specs.Steps.{Goes, AreSearchable};
 ghost use Rattle.comprehend.specs.Entering.{AreReverseArcs, IsArcOf, ComesBy, ComesByOne};
 

@@ -1,6 +1,7 @@
 ghost use Rattle.std.specs.Prelude.{◌≡◌, ◌≢◌, ◌*◌, ◌<◌, ◌^◌, ℕ, AllPairs, IfOk, length};
 ghost use Rattle.answer_text.specs.Right.{numbers_of};
-ghost use Rattle.comprehend.specs.Searches.{AreLengths, IsSearched};
+ghost use Rattle.first_paths.specs.Search.{AreLengths};
+ghost use Rattle.comprehend.specs.Searches.{IsLeft, IsSearched};
 ghost use Rattle.comprehend.specs.Steps.{Goes, IsEndCell, AreSearchable};
 ghost use Rattle.comprehend.specs.Entering.{AreReverseArcs, IsArcOf};
 
@@ -52,7 +53,7 @@ fn backward_search(
     ensures each { IfOk result (λ left. length left.items ≡ length states.now * length tests.now) }
     ensures lengths { IfOk result
         (λ left.
-        AreLengths (Goes states.now tests.now) (IsEndCell states.now tests.now) left.items) }
+        AreLengths (Goes states.now tests.now) (IsEndCell states.now tests.now) (IsLeft left.items)) }
 {
     let search = at_the_ends(alloc, states, tests)?;
     let mut left = search.left;
@@ -79,7 +80,7 @@ pub(crate) fn lengths(
     ensures each { IfOk result (λ left. length left.items ≡ length states.now * length tests.now) }
     ensures lengths { IfOk result
         (λ left.
-        AreLengths (Goes states.now tests.now) (IsEndCell states.now tests.now) left.items) }
+        AreLengths (Goes states.now tests.now) (IsEndCell states.now tests.now) (IsLeft left.items)) }
 {
     let into = reverse_arcs(alloc, numbers, states)?;
     backward_search(alloc, states, tests, &into)

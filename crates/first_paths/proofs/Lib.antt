@@ -1,5 +1,9 @@
+pub mod Reaching
 pub mod Searching
 pub mod Order
 pub mod FirstFrom
+pub mod FirstStep
+pub mod Counts
+pub mod TableSteps
 pub mod Choosing
 pub mod Results

@@ -1,27 +1,54 @@
--- How few moves lead to the end, as they are counted, and what is chosen by it.
-use Rattle.std.specs.Prelude.{◌≡◌, ◌<◌, ◌≤◌, ℕ, List, Option, None, Some, Contains, false, length, slice_index_or}
+-- How few moves of a table lead to the end, as they are counted, and what is chosen by it.
+use Rattle.std.specs.Prelude.{◌≡◌, ◌<◌, ◌+◌, ℕ, List, [], ◌∷◌, Option, None, Some, Contains, IsTrue, false, length, slice_index_or}
 use Rattle.std.specs.Ordering.{is_gt}
 use Rattle.tier_core.specs.declared.sym.Sym.{Sym}
+use Rattle.tier_core.specs.Classes.{has}
 use Rattle.tier_core.specs.Orders.{column_cmp}
 use Rattle.tier_core.specs.FirstColumn.{first_column}
 use Rattle.weight_law.specs.declared.Weight.{Ghosts}
 use Rattle.weight_law.specs.declared.count.Count.{Count}
 use Rattle.arc_table.specs.declared.arc.TableArc.{TableArc}
 use Rattle.arc_table.specs.declared.state.TableState.{TableState}
-use Rattle.arc_table.specs.Runs.{IsRun}
-
--- for each state how few moves lead to an accepting one, and none if no moves do
-pub record AreLengths {V : Type 0} {h : Ghosts V} (states : List (TableState V h))
-    (left : List (Option Count)) : Type 0 where
-  pub each_state : length left ≡ length states
-  pub some : (s : ℕ) (n : Count) → slice_index_or left s None ≡ Some n
-      → (arcs : List (TableArc V h)) × IsRun states s arcs × (length arcs ≡ n.0)
-  pub least : (s : ℕ) (arcs : List (TableArc V h)) → s < length states → IsRun states s arcs
-      → (n : Count) × (slice_index_or left s None ≡ Some n) × (n.0 ≤ length arcs)
+use Rattle.arc_table.specs.declared.incoming_move.IncomingMove.{IncomingMove}
+use Rattle.arc_table.specs.declared.incoming.Incoming.{Incoming}
+use Rattle.arc_table.specs.Moves.{moves_at, accepting_at}
+use Rattle.arc_table.specs.Incoming.{moves_into}
+use Rattle.first_paths.specs.Search.{LeadsToOne, ReachesIn, IsSearchedIn}
 
 -- n moves are left at state s
 abbrev pub IsLeft : List (Option Count) → ℕ → ℕ → Type 0
 IsLeft left s n = (c : Count) × (slice_index_or left s None ≡ Some c) × (c.0 ≡ n)
+
+-- for how many states nothing is known
+abbrev pub unknown_count : List (Option Count) → ℕ
+unknown_count [] = 0
+unknown_count (None ∷ left) = 1 + unknown_count left
+unknown_count (Some n ∷ left) = unknown_count left
+
+-- a move whose class holds the column leads from state s to state t
+abbrev pub Goes : {V : Type 0} {h : Ghosts V} → List (TableState V h) → ℕ → List Sym → ℕ → Type 0
+Goes {V} {h} states s column t = (arc : TableArc V h) × Contains (moves_at states s) arc × IsTrue (has arc.class column)
+    × (arc.target ≡ t)
+
+-- the state accepts
+abbrev pub IsEnd : {V : Type 0} {h : Ghosts V} → List (TableState V h) → ℕ → Type 0
+IsEnd states s = IsTrue (accepting_at states s)
+
+-- one of the moves comes from state q
+abbrev pub IsSource : {V : Type 0} → List (IncomingMove V) → ℕ → Type 0
+IsSource = LeadsToOne (λ move q. move.source ≡ q)
+
+-- one of the moves to one of the states comes from state q
+abbrev pub IsBefore : {V : Type 0} {h : Ghosts V} → Incoming V h → List ℕ → ℕ → Type 0
+IsBefore incoming = LeadsToOne (λ t. IsSource (moves_into incoming t))
+
+-- the chosen states of which nothing was known now have n moves left and are listed
+abbrev pub Reaches : (ℕ → Type 0) → ℕ → List (Option Count) → List (Option Count) → List ℕ → List ℕ → Type 0
+Reaches = ReachesIn IsLeft unknown_count
+
+-- the search has come to the states with at most k moves left, and `level` has those with k
+abbrev pub IsSearched : {V : Type 0} {h : Ghosts V} → List (TableState V h) → List (Option Count) → List ℕ → ℕ → Type 0
+IsSearched states = IsSearchedIn IsLeft unknown_count (Goes states) (IsEnd states) (length states)
 
 -- n moves are left at the move's target
 abbrev pub HasLeft : {V : Type 0} {h : Ghosts V} → List (Option Count) → ℕ → TableArc V h → Type 0

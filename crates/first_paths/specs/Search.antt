@@ -1,53 +1,63 @@
--- The search backward from the accepting states, level by level.
-use Rattle.std.specs.Prelude.{◌≡◌, ◌<◌, ◌≤◌, ◌+◌, ◌⊎◌, ℕ, List, [], ◌∷◌, Option, None, Some, Contains, IsTrue, length, slice_index_or}
-use Rattle.weight_law.specs.declared.Weight.{Ghosts}
-use Rattle.weight_law.specs.declared.count.Count.{Count}
-use Rattle.arc_table.specs.declared.arc.TableArc.{TableArc}
-use Rattle.arc_table.specs.declared.state.TableState.{TableState}
-use Rattle.arc_table.specs.declared.incoming_move.IncomingMove.{IncomingMove}
-use Rattle.arc_table.specs.declared.incoming.Incoming.{Incoming}
-use Rattle.arc_table.specs.Moves.{moves_at, accepting_at}
-use Rattle.arc_table.specs.Runs.{IsRun}
-use Rattle.arc_table.specs.Incoming.{moves_into}
-use Rattle.first_paths.specs.Counted.{IsLeft}
+-- Breadth-first searches, backward from the ends of a graph whose steps read columns. Vertices are numbers. What a
+-- list of numbers left says is told by `at`, how many columns are left at a vertex, and by `unknown`, of how many
+-- vertices nothing is known.
+use Rattle.std.specs.Prelude.{◌≡◌, ◌<◌, ◌≤◌, ◌+◌, ◌⊎◌, ℕ, List, [], ◌∷◌, Contains, false, length}
+use Rattle.std.specs.Ordering.{is_gt}
+use Rattle.tier_core.specs.declared.sym.Sym.{Sym}
+use Rattle.tier_core.specs.Orders.{column_cmp}
 
--- for how many states nothing is known
-abbrev pub unknown_count : List (Option Count) → ℕ
-unknown_count [] = 0
-unknown_count (None ∷ left) = 1 + unknown_count left
-unknown_count (Some n ∷ left) = unknown_count left
+-- columns are read on the way from a vertex to an end
+abbrev pub ReadsFrom : (ℕ → List Sym → ℕ → Type 0) → (ℕ → Type 0) → ℕ → List (List Sym) → Type 0
+ReadsFrom step ends v [] = ends v
+ReadsFrom step ends v (column ∷ word) = (w : ℕ) × (step v column w × ReadsFrom step ends w word)
 
--- one of the moves comes from state q
-abbrev pub IsSource : {V : Type 0} → List (IncomingMove V) → ℕ → Type 0
-IsSource {V} moves q = (move : IncomingMove V) × Contains moves move × (move.source ≡ q)
+-- the numbers are the least numbers of columns left, if there is a way to an end
+pub record AreLengths (step : ℕ → List Sym → ℕ → Type 0) (ends : ℕ → Type 0) (left : ℕ → ℕ → Type 0) : Type 0 where
+  pub some : (v n : ℕ) → left v n → (word : List (List Sym)) × (ReadsFrom step ends v word × (length word ≡ n))
+  pub least : (v : ℕ) (word : List (List Sym)) → ReadsFrom step ends v word
+      → (n : ℕ) × (left v n × (n ≤ length word))
 
--- one of the moves to one of the states comes from state q
-abbrev pub IsPredecessor : {V : Type 0} {h : Ghosts V} → Incoming V h → List ℕ → ℕ → Type 0
-IsPredecessor incoming level q = (t : ℕ) × Contains level t × IsSource (moves_into incoming t) q
+-- one of the elements is led to from v
+abbrev pub LeadsToOne : {A : Type 0} → (A → ℕ → Type 0) → List A → ℕ → Type 0
+LeadsToOne {A} leads elements v = (x : A) × Contains elements x × leads x v
 
--- the states with P of which nothing was known now have n moves left and are listed, and all else
--- stays
-pub record Reaches (P : ℕ → Type 0) (n : ℕ) (old new : List (Option Count)) (before after : List ℕ) : Type 0 where
+-- a step leads from v to one of the vertices of a level
+abbrev pub IsPredecessor : (ℕ → List Sym → ℕ → Type 0) → List ℕ → ℕ → Type 0
+IsPredecessor step = LeadsToOne (λ w v. (column : List Sym) × step v column w)
+
+-- the chosen vertices of which nothing was known now have n columns left and are listed, and all else
+-- stays the same
+pub record ReachesIn {X : Type 0} (at : List X → ℕ → ℕ → Type 0) (unknown : List X → ℕ) (chosen : ℕ → Type 0) (n : ℕ)
+    (old new : List X) (before after : List ℕ) : Type 0 where
   pub same : length new ≡ length old
-  pub kept : (q : ℕ) (c : Count) → slice_index_or old q None ≡ Some c → slice_index_or new q None ≡ Some c
-  pub found : (q : ℕ) (c : Count) → slice_index_or new q None ≡ Some c
-      → (slice_index_or old q None ≡ Some c) ⊎ ((c.0 ≡ n) × P q × Contains after q)
-  pub reached : (q : ℕ) → P q → (c : Count) × (slice_index_or new q None ≡ Some c)
-  pub stays : (q : ℕ) → Contains before q → Contains after q
-  pub listed : (q : ℕ) → Contains after q → Contains before q ⊎ IsLeft new q n
-  pub number : unknown_count new + length after ≡ unknown_count old + length before
+  pub kept : (v m : ℕ) → at old v m → at new v m
+  pub found : (v m : ℕ) → at new v m → at old v m ⊎ ((m ≡ n) × chosen v × Contains after v)
+  pub reached : (v : ℕ) → chosen v → (m : ℕ) × at new v m
+  pub stays : (v : ℕ) → Contains before v → Contains after v
+  pub listed : (v : ℕ) → Contains after v → Contains before v ⊎ at new v n
+  pub number : unknown new + length after ≡ unknown old + length before
 
--- the search has come to the states with at most k moves left, and `level` has those with k
-pub record IsSearched {V : Type 0} {h : Ghosts V} (states : List (TableState V h)) (left : List (Option Count))
-    (level : List ℕ) (k : ℕ) : Type 0 where
-  pub each_state : length left ≡ length states
-  pub few : k + unknown_count left + length level ≤ length states
-  pub at_most : (s : ℕ) (n : Count) → slice_index_or left s None ≡ Some n → n.0 ≤ k
-  pub some : (s : ℕ) (n : Count) → slice_index_or left s None ≡ Some n
-      → (arcs : List (TableArc V h)) × IsRun states s arcs × (length arcs ≡ n.0)
-  pub ends : (s : ℕ) → s < length states → IsTrue (accepting_at states s) → IsLeft left s 0
-  pub closed : (s : ℕ) (arc : TableArc V h) (n : Count) → Contains (moves_at states s) arc
-      → slice_index_or left arc.target None ≡ Some n → n.0 < k →
-      (m : Count) × (slice_index_or left s None ≡ Some m) × (m.0 ≤ n.0 + 1)
-  pub last : (s : ℕ) → IsLeft left s k → Contains level s
-  pub level_is : (s : ℕ) → Contains level s → IsLeft left s k
+-- the search has found the vertices with at most k columns left, and `level` has those with k
+pub record IsSearchedIn {X : Type 0} (at : List X → ℕ → ℕ → Type 0) (unknown : List X → ℕ)
+    (step : ℕ → List Sym → ℕ → Type 0) (ends : ℕ → Type 0) (total : ℕ) (left : List X) (level : List ℕ)
+    (k : ℕ) : Type 0 where
+  pub each : length left ≡ total
+  pub few : k + unknown left + length level ≤ total
+  pub at_most : (v n : ℕ) → at left v n → n ≤ k
+  pub some : (v n : ℕ) → at left v n → (word : List (List Sym)) × (ReadsFrom step ends v word × (length word ≡ n))
+  pub ended : (v : ℕ) → ends v → at left v 0
+  pub closed : (v w n : ℕ) (column : List Sym) → step v column w → at left w n → n < k
+      → (m : ℕ) × (at left v m × (m ≤ n + 1))
+  pub last : (v : ℕ) → at left v k → Contains level v
+  pub level_is : (v : ℕ) → Contains level v → at left v k
+
+-- of the steps from v to a vertex with n columns left, this one reads the least column
+pub record IsLeastStep (step : ℕ → List Sym → ℕ → Type 0) (left : ℕ → ℕ → Type 0) (v n : ℕ) (column : List Sym)
+    (w : ℕ) : Type 0 where
+  pub steps : step v column w
+  pub nearer : left w n
+  pub least : (other : List Sym) (x : ℕ) → step v other x → left x n → is_gt (column_cmp column other) ≡ false
+
+-- some step leads from v to a vertex with n columns left
+abbrev pub HasStep : (ℕ → List Sym → ℕ → Type 0) → (ℕ → ℕ → Type 0) → ℕ → ℕ → Type 0
+HasStep step left v n = (column : List Sym) × (w : ℕ) × (step v column w × left w n)

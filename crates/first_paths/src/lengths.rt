@@ -1,8 +1,8 @@
-ghost use Rattle.std.specs.Prelude.{◌<◌, ℕ, [], All, IfOk, length};
+ghost use Rattle.std.specs.Prelude.{◌≡◌, ◌<◌, ℕ, [], All, IfOk, length};
 ghost use Rattle.arc_table.specs.Incoming.{states_in, AreReverseMoves};
 ghost use Rattle.arc_table.specs.States.{states_of};
-ghost use Rattle.first_paths.specs.Counted.{AreLengths};
-ghost use Rattle.first_paths.specs.Search.{IsSource, IsPredecessor, Reaches, IsSearched};
+ghost use Rattle.first_paths.specs.Search.{AreLengths};
+ghost use Rattle.first_paths.specs.Counted.{IsLeft, Goes, IsEnd, IsSource, IsBefore, Reaches, IsSearched};
 
 use arc_table::{Incoming, IncomingMove, Table};
 use std::alloc::Global;
@@ -17,20 +17,39 @@ struct Search {
     level: Vec<u32>,
 }
 
+/// If nothing is known about a state yet, it has `n` moves left and is appended to `next`.
+fn look(
+    state: u32,
+    n: u32,
+    left: &mut Vec<Option<Count>>,
+    next: &mut Vec<u32>,
+) -> Result<(), NoMemory>
+    requires { state < length left.old.items }
+    ensures { IfOk result
+        (λ _.
+        Reaches
+        (λ q. state ≡ q) n left.old.items left.new.items next.old.items next.new.items) }
+{
+    if left[state as usize].is_some() {
+        return Ok(());
+    }
+    left[state as usize] = Some(Count(n));
+    next.push(state)?;
+    Ok(())
+}
+
 /// The accepting states, at which no move is left.
 fn at_the_end(alloc: Global, table: &Table<UnitWeight>) -> Result<Search, NoMemory>
     ensures { IfOk result
         (λ search. IsSearched (states_of table.now) search.left.items search.level.items 0) }
 {
-    let mut left = Vec::new(alloc);
+    let mut left = vec![in alloc; None; table.len() as usize]?;
     let mut level = Vec::new(alloc);
     for state in 0..table.len() {
         if !table.accepting(state) {
-            left.push(None)?;
             continue;
         }
-        left.push(Some(Count(0)))?;
-        level.push(state)?;
+        look(state, 0, &mut left, &mut level)?;
     }
     Ok(Search { left, level })
 }
@@ -50,11 +69,7 @@ fn reach(
         (IsSource moves.now) n left.old.items left.new.items next.old.items next.new.items) }
 {
     for incoming in moves {
-        if left[incoming.source as usize].is_some() {
-            continue;
-        }
-        left[incoming.source as usize] = Some(Count(n));
-        next.push(incoming.source)?;
+        look(incoming.source, n, left, next)?;
     }
     Ok(())
 }
@@ -69,12 +84,12 @@ fn next_level(
     left: &mut Vec<Option<Count>>,
 ) -> Result<Vec<u32>, NoMemory>
     requires inside { All (λ state. state < states_in incoming.now) level.now }
-    requires sources { (q : ℕ) → IsPredecessor incoming.now level.now q
+    requires sources { (q : ℕ) → IsBefore incoming.now level.now q
         → q < length left.old.items }
     ensures { IfOk result
         (λ next.
         Reaches
-        (IsPredecessor incoming.now level.now) n left.old.items left.new.items [] next.items) }
+        (IsBefore incoming.now level.now) n left.old.items left.new.items [] next.items) }
 {
     let mut next = Vec::new(alloc);
     for state in level {
@@ -90,7 +105,11 @@ fn backward_search(
     incoming: &Incoming<UnitWeight>,
 ) -> Result<Vec<Option<Count>>, NoMemory>
     requires { AreReverseMoves (states_of table.now) incoming.now }
-    ensures { IfOk result (λ left. AreLengths (states_of table.now) left.items) }
+    ensures each { IfOk result (λ left. length left.items ≡ length (states_of table.now)) }
+    ensures lengths { IfOk result
+        (λ left.
+        AreLengths
+        (Goes (states_of table.now)) (IsEnd (states_of table.now)) (IsLeft left.items)) }
 {
     let search = at_the_end(alloc, table)?;
     let mut left = search.left;
@@ -108,7 +127,11 @@ pub(crate) fn lengths(
     alloc: Global,
     table: &Table<UnitWeight>,
 ) -> Result<Vec<Option<Count>>, NoMemory>
-    ensures { IfOk result (λ left. AreLengths (states_of table.now) left.items) }
+    ensures each { IfOk result (λ left. length left.items ≡ length (states_of table.now)) }
+    ensures lengths { IfOk result
+        (λ left.
+        AreLengths
+        (Goes (states_of table.now)) (IsEnd (states_of table.now)) (IsLeft left.items)) }
 {
     let incoming = Incoming::of_table(alloc, table)?;
     backward_search(alloc, table, &incoming)

@@ -3,7 +3,8 @@ use Rattle.std.proofs.{lemmas.Option.slice_get_within, lemmas.List.{get_or_defau
 use Rattle.std.specs.Prelude.{slice_get}
 use Rattle.tier_core.specs.{declared.sym.Sym.Sym, Orders.IsFirst, declared.class.Class.Class}
 use Rattle.answer_text.specs.{declared.automaton.StateLine.StateLine, Right.numbers_of}
-use Rattle.comprehend.specs.{Searches.{no_distance, ReadsFrom}, Steps.{Goes, IsEndCell, AreSearchable}}
+use Rattle.first_paths.specs.Search.{ReadsFrom}
+use Rattle.comprehend.specs.{Searches.no_distance, Steps.{Goes, IsEndCell, AreSearchable}}
 use Rattle.comprehend.proofs.{Cells.cells_inside, Numbers.once_at}
 use Rattle.comprehend.proofs.follow.first_along.Goals as goal
 

@@ -2,9 +2,9 @@ use Rattle.std.proofs.Common.{◌≡◌, ℕ, ◌+◌, ◌-◌, ◌++◌, List, 
 use Rattle.std.proofs.lemmas.List.{append-nil}
 use Rattle.tier_core.specs.declared.sym.Sym.{Sym}
 use Rattle.first_paths.proofs.Results.{on_ok}
+use Rattle.first_paths.proofs.FirstStep.{IsFirstFrom, is_first, first_empty, first_step, step_exists}
 use Rattle.comprehend.specs.{Searches.IsLeft, Steps.{Goes, IsEndCell}}
-use Rattle.comprehend.proofs.{Reaching.known_inside, OneStep.one_step}
-use Rattle.comprehend.proofs.FirstStep.{IsFirstFrom, is_first, first_empty, first_step, step_exists}
+use Rattle.comprehend.proofs.{Reaching.{known_inside, same_left}, OneStep.one_step}
 use Rattle.comprehend.proofs.follow.follow.Goals as goal
 
 pub choose-choice-requires-clause-from : goal.choose-choice-requires-clause-from
@@ -21,7 +21,8 @@ choose-choice-requires-clause-some c =
     let n = c.args.most - 1 - c.loop-done.done in
     let P : ℕ → Type 0 = λ k. IsLeft c.args.left.now c.loop-done.from k in
     let more : c.args.most - c.loop-done.done ≡ n + 1 = omega (arith, c.loop-done-test.true) in
-    step_exists (Goes states tests) (IsEndCell states tests) c.args.left.now c.requires.lengths c.loop-done.from n
+    step_exists (Goes states tests) (IsEndCell states tests) (IsLeft c.args.left.now) (same_left c.args.left.now)
+    c.requires.lengths c.loop-done.from n
     (subst P more c.loop-done.invariant.left_is)
 
 pub loop-done-preserved : goal.loop-done-preserved
@@ -47,8 +48,8 @@ loop-done-preserved c =
           (let F : List (List Sym) → Type 0 = IsFirstFrom (Goes states tests) (IsEndCell states tests) c.args.start in
           let one = one_step states tests c.requires.once c.requires.apart c.requires.tests_apart in
           let whole = inv.first (choice.column ∷ word)
-          (first_step (Goes states tests)
-          (IsEndCell states tests) left c.requires.lengths one v n here choice.column choice.cell least word first) in
+          (first_step (Goes states tests) (IsEndCell states tests) (IsLeft left) (same_left left) c.requires.lengths
+          one v n here choice.column choice.cell least word first) in
           subst F (sym (ap (λ xs. xs ++ word) longer
           ∙ append_assoc c.loop-done.timeline (choice.column ∷ []) word)) whole);
     }
@@ -63,5 +64,6 @@ returns c =
     let none : c.args.most - c.loop-done.done ≡ 0 = omega (arith, c.loop-done-test.false) in
     is_first (Goes states tests) (IsEndCell states tests) c.args.start columns
     (subst F (append-nil columns) (c.loop-done.invariant.first []
-    (first_empty (Goes states tests) (IsEndCell states tests) c.args.left.now c.requires.lengths c.loop-done.from
+    (first_empty (Goes states tests) (IsEndCell states tests) (IsLeft c.args.left.now) (same_left c.args.left.now)
+    c.requires.lengths c.loop-done.from
     (subst P none c.loop-done.invariant.left_is))))

@@ -1,7 +1,7 @@
 use Rattle.std.proofs.Common.{◌-◌, ◌++◌, List}
 use Rattle.tier_core.specs.declared.sym.Sym.{Sym}
 use Rattle.comprehend.specs.{Searches.IsLeft, Steps.{Goes, IsEndCell}}
-use Rattle.comprehend.proofs.FirstStep.{IsFirstFrom}
+use Rattle.first_paths.proofs.FirstStep.{IsFirstFrom}
 use Rattle.comprehend.proofs.follow.follow.Given as goal
 
 abbrev pub invariant-loop-done : goal.invariant-loop-done

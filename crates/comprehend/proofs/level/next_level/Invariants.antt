@@ -1,5 +1,6 @@
 use Rattle.std.proofs.Common.{◌≤◌, [], length, take}
-use Rattle.comprehend.specs.{Searches.{IsPredecessor, Reaches}, Steps.Goes}
+use Rattle.first_paths.specs.Search.{IsPredecessor}
+use Rattle.comprehend.specs.{Searches.Reaches, Steps.Goes}
 use Rattle.comprehend.proofs.level.next_level.Given as goal
 
 abbrev pub invariant-loop-to : goal.invariant-loop-to

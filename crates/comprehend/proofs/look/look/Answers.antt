@@ -1,6 +1,7 @@
 use Rattle.std.proofs.{Common.{◌≡◌, arith}, lemmas.List.get_or_read}
 use Rattle.comprehend.specs.Searches.{no_distance}
-use Rattle.comprehend.proofs.Reaching.{one_unknown, reaches_same}
+use Rattle.first_paths.proofs.Reaching.{reaches_same}
+use Rattle.comprehend.proofs.Reaching.{one_unknown}
 use Rattle.comprehend.proofs.look.look.Goals as goal
 
 pub returns : goal.returns

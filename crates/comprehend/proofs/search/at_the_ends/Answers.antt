@@ -1,7 +1,7 @@
 use Rattle.std.proofs.{Common.{◌*◌, [], length, replicate, arith}, lemmas.List.length-replicate}
 use Rattle.comprehend.specs.{Searches.no_distance, Steps.{Goes, IsEndCell}}
-use Rattle.comprehend.proofs.{Cells.cells_inside, Reaching.{reaches_none, unknown_count-no_distance, none_left}}
-use Rattle.comprehend.proofs.{Searching.search_start, Ends.{IsEndBelow, no_end_below, end_more, all_ends}}
+use Rattle.first_paths.proofs.{Reaching.reaches_none, Searching.search_start}
+use Rattle.comprehend.proofs.{Cells.cells_inside, Reaching.{unknown_count-no_distance, none_left}, Ends.{IsEndBelow, no_end_below, end_more, all_ends}}
 use Rattle.comprehend.proofs.search.at_the_ends.Goals as goal
 
 pub loop-number-init : goal.loop-number-init

@@ -1,7 +1,8 @@
 use Rattle.std.proofs.Common.{◌≡◌, ◌+◌, ◌<◌, ℕ, [], List, length, get_or, sym, subst, arith}
 use Rattle.std.proofs.{lemmas.Bool.{eqb-true, eqb-false}, lemmas.List.Elements.Contains-get_or}
-use Rattle.comprehend.specs.{Searches.{IsPredecessor, Reaches}, Steps.{Goes, IsEndCell}}
-use Rattle.comprehend.proofs.{Reaching.known_inside, Searching.{search_next, search_end}}
+use Rattle.comprehend.specs.{Searches.Reaches, Steps.{Goes, IsEndCell}}
+use Rattle.first_paths.{specs.Search.IsPredecessor, proofs.Searching.{search_next, search_end}}
+use Rattle.comprehend.proofs.Reaching.{known_inside}
 use Rattle.comprehend.proofs.search.backward_search.Goals as goal
 
 pub next_level-requires-clause-inside : goal.next_level-requires-clause-inside

@@ -1,5 +1,5 @@
 use Rattle.std.proofs.Common.{◌+◌, length}
-use Rattle.first_paths.specs.Search.{unknown_count, IsSearched}
+use Rattle.first_paths.specs.Counted.{unknown_count, IsSearched}
 use Rattle.first_paths.proofs.lengths.backward_search.Given as goal
 
 abbrev pub invariant-levels : goal.invariant-levels

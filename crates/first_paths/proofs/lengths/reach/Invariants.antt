@@ -1,5 +1,5 @@
 use Rattle.std.proofs.Common.{◌≤◌, length, take}
-use Rattle.first_paths.specs.Search.{IsSource, Reaches}
+use Rattle.first_paths.specs.Counted.{IsSource, Reaches}
 use Rattle.first_paths.proofs.lengths.reach.Given as goal
 
 abbrev pub invariant-loop-incoming : goal.invariant-loop-incoming

@@ -1,11 +1,11 @@
 -- One column more at the front of a first word.
-use Rattle.std.proofs.Common.{◌≡◌, ℕ, ◌+◌, ◌≤◌, false, List, [], ◌∷◌, length, refl, sym, ◌∙◌, subst, arith, inl}
+use Rattle.std.proofs.Common.{◌≡◌, ℕ, ◌+◌, ◌≤◌, false, List, [], ◌∷◌, length, refl, sym, subst, arith, inl}
 use Rattle.std.proofs.{Common.inr, lemmas.Bool.{false≢true, cases_lt}}
 use Rattle.std.specs.{declared.cmp.Ordering.Ordering, declared.cmp.Ordering.TheVariants.{Less, Equal, Greater}}
 use Rattle.std.specs.Ordering.{ordering_then, is_gt}
 use Rattle.tier_core.specs.{declared.sym.Sym.Sym, Orders.{column_cmp, IsFirst}}
+use Rattle.first_paths.specs.Search.{ReadsFrom, AreLengths, IsLeastStep, HasStep}
 use Rattle.first_paths.proofs.{Order.equal_columns, FirstFrom.{word_cmp, IsFirstOf, first_le}}
-use Rattle.comprehend.specs.Searches.{IsLeft, ReadsFrom, AreLengths, IsLeastStep, HasStep}
 
 module _ (step : ℕ → List Sym → ℕ → Type 0) (ends : ℕ → Type 0) where
   -- the first of the words that are read from v
@@ -16,12 +16,10 @@ module _ (step : ℕ → List Sym → ℕ → Type 0) (ends : ℕ → Type 0) wh
   pub is_first : (v : ℕ) (word : List (List Sym)) → IsFirstFrom v word → IsFirst (ReadsFrom step ends v) word
   is_first v word f = record { member = f.read; least = λ other r. first_le word other (f.first other r) }
 
-  module _ (left : List ℕ) (are : AreLengths step ends left) where
-    same_left : (v m n : ℕ) → IsLeft left v m → IsLeft left v n → m ≡ n
-    same_left v m n a b = sym a.number ∙ b.number
-
+  module _ (left : ℕ → ℕ → Type 0) (same_left : (v m n : ℕ) → left v m → left v n → m ≡ n)
+      (are : AreLengths step ends left) where
     -- with no column left the empty word is the first
-    pub first_empty : (v : ℕ) → IsLeft left v 0 → IsFirstFrom v []
+    pub first_empty : (v : ℕ) → left v 0 → IsFirstFrom v []
     first_empty v at = record {
       read = go (are.some v 0 at).0 (are.some v 0 at).1.0 (are.some v 0 at).1.1;
       first = first;
@@ -36,7 +34,7 @@ module _ (step : ℕ → List Sym → ℕ → Type 0) (ends : ℕ → Type 0) wh
         first (c ∷ other) r = inl (omega arith)
 
     -- the first word has as many columns as are left
-    first_length : (v n : ℕ) (word : List (List Sym)) → IsLeft left v n → IsFirstFrom v word → length word ≡ n
+    first_length : (v n : ℕ) (word : List (List Sym)) → left v n → IsFirstFrom v word → length word ≡ n
     first_length v n word at first =
         let bound = are.least v word first.read in
         let some = are.some v n at in
@@ -46,7 +44,7 @@ module _ (step : ℕ → List Sym → ℕ → Type 0) (ends : ℕ → Type 0) wh
         omega (arith, bound.1.1, some.1.1, same, upper)
 
     -- where columns are left, a step leads nearer
-    pub step_exists : (v n : ℕ) → IsLeft left v (n + 1) → HasStep step left v n
+    pub step_exists : (v n : ℕ) → left v (n + 1) → HasStep step left v n
     step_exists v n at = go (are.some v (n + 1) at).0 (are.some v (n + 1) at).1.0 (are.some v (n + 1) at).1.1
       where
         go : (word : List (List Sym)) → ReadsFrom step ends v word → length word ≡ n + 1 → HasStep step left v n
@@ -57,17 +55,17 @@ module _ (step : ℕ → List Sym → ℕ → Type 0) (ends : ℕ → Type 0) wh
             let best = are.some w near.0 near.1.0 in
             let back = are.least v (c ∷ best.0) (w, (r.1.0, best.1.0)) in
             let same : back.0 ≡ n + 1 = same_left v back.0 (n + 1) back.1.0 at in
-            let P : ℕ → Type 0 = λ k. IsLeft left w k in
+            let P : ℕ → Type 0 = λ k. left w k in
             let here : near.0 ≡ n = omega (arith, near.1.1, back.1.1, best.1.1, same, e) in
             (c, w, (r.1.0, subst P here near.1.0))
 
     module _ (one : (v w x : ℕ) (column : List Sym) → step v column w → step v column x → w ≡ x) (v n : ℕ)
-        (at : IsLeft left v (n + 1)) (column : List Sym) (w : ℕ) (choice : IsLeastStep step left v n column w)
+        (at : left v (n + 1)) (column : List Sym) (w : ℕ) (choice : IsLeastStep step left v n column w)
         (word : List (List Sym)) (rest : IsFirstFrom w word) where
       word_length : length word ≡ n
       word_length = first_length w n word choice.nearer rest
 
-      at_most_other : (d : List Sym) (x : ℕ) (vs : List (List Sym)) → step v d x → IsLeft left x n
+      at_most_other : (d : List Sym) (x : ℕ) (vs : List (List Sym)) → step v d x → left x n
           → ReadsFrom step ends x vs → length vs ≡ n → is_gt (word_cmp (column ∷ word) (d ∷ vs)) ≡ false
       at_most_other d x vs steps near read long = go (column_cmp column d) refl (choice.least d x steps near)
         where
@@ -105,7 +103,7 @@ module _ (step : ℕ → List Sym → ℕ → Type 0) (ends : ℕ → Type 0) wh
               elim (cases_lt n (length vs)) [
                 | inl more ↦ inl (omega (arith, word_length, more))
                 | inr few ↦
-                    (let P : ℕ → Type 0 = λ k. IsLeft left x k in
+                    (let P : ℕ → Type 0 = λ k. left x k in
                     let here : near.0 ≡ n = omega (arith, near.1.1, back.1.1, best.1.1, same, few) in
                     let long : length vs ≡ n = omega (arith, few, near.1.1, back.1.1, best.1.1, same) in
                     inr (

@@ -1,10 +1,10 @@
--- Tests that two values are one: symbols, columns, phases and kinds.
-use Rattle.std.proofs.Common.{◌≡◌, ℕ, ◌==◌, Bool, true, false, ◌&&◌, List, refl, sym, ap, ◌∙◌, arith, subst}
-use Rattle.std.proofs.{Common.{Contains, Decides}, lemmas.Bool.Decides.{Decides-and, Decides-eqb}}
-use Rattle.std.specs.{Bool.beq, List.list_any, Cmp.Lexicographic.{pointwise, pointwise_decides}}
+-- Tests that two values are one: symbols, columns and kinds.
+use Rattle.std.proofs.Common.{◌≡◌, ℕ, ◌==◌, Bool, true, false, List, refl, sym, ap, ◌∙◌, subst}
+use Rattle.std.proofs.{Common.{Contains, Decides}, lemmas.{Bool.Decides.Decides-eqb, Cmp.tied_itself}}
+use Rattle.std.specs.{Bool.beq, List.list_any, Ordering.is_eq, Cmp.Lexicographic.{pointwise, pointwise_decides}}
 use Rattle.tier_core.specs.{declared.sym.Sym.Sym, Symbols.rank}
-use Rattle.tier_core.specs.Kinds.{Phase, closed, unmet, met, PrefixKind, phase_rank}
-use Rattle.tier_core.proofs.SetLemmas.{rank_same}
+use Rattle.tier_core.specs.Kinds.{PrefixKind, kind_order}
+use Rattle.tier_core.proofs.{SetLemmas.rank_same, KindTies.{same_kind as one_kind, is_equal, kind_order_total}}
 use Rattle.answer_examples.proofs.Tests.{Decides-by, some_decided}
 
 pub Decides-flag : (a b : Bool) → Decides (beq a b) (a ≡ b)
@@ -39,48 +39,14 @@ same_numbers xs ys = pointwise ◌==◌ xs ys
 pub Decides-numbers : (xs ys : List ℕ) → Decides (same_numbers xs ys) (xs ≡ ys)
 Decides-numbers xs ys = pointwise_decides Decides-eqb xs ys
 
-same_phase : (a b : Phase) → phase_rank a ≡ phase_rank b → a ≡ b
-same_phase closed closed e = refl
-same_phase closed unmet e = absurd (omega (arith, e))
-same_phase closed met e = absurd (omega (arith, e))
-same_phase unmet closed e = absurd (omega (arith, e))
-same_phase unmet unmet e = refl
-same_phase unmet met e = absurd (omega (arith, e))
-same_phase met closed e = absurd (omega (arith, e))
-same_phase met unmet e = absurd (omega (arith, e))
-same_phase met met e = refl
-
-abbrev pub one_phase : Phase → Phase → Bool
-one_phase a b = phase_rank a == phase_rank b
-
-Decides-phase : (a b : Phase) → Decides (one_phase a b) (a ≡ b)
-Decides-phase a b = Decides-by (Decides-eqb (phase_rank a) (phase_rank b))
-    (same_phase a b)
-    (ap phase_rank)
-
 abbrev pub same_kind : PrefixKind → PrefixKind → Bool
-same_kind k l = (k.place == l.place) && (pointwise beq k.opened l.opened && pointwise one_phase k.phases l.phases)
-
-abbrev of_parts : ℕ → List Bool → List Phase → PrefixKind
-of_parts place opened phases = record { place = place; opened = opened; phases = phases }
-
-parts_same : (k l : PrefixKind) → (k.place ≡ l.place) × ((k.opened ≡ l.opened) × (k.phases ≡ l.phases)) → k ≡ l
-parts_same k l h =
-    ap (λ n. of_parts n k.opened k.phases) h.0 ∙ ap (λ flags. of_parts l.place flags k.phases) h.1.0
-    ∙ ap (λ phases. of_parts l.place l.opened phases) h.1.1
+same_kind k l = is_eq (kind_order k l)
 
 pub Decides-kind : (k l : PrefixKind) → Decides (same_kind k l) (k ≡ l)
-Decides-kind k l =
-    Decides-by (Decides-and (k.place == l.place)
-    (pointwise beq k.opened l.opened && pointwise one_phase k.phases l.phases)
-    (Decides-eqb k.place l.place)
-    (Decides-and (pointwise beq k.opened l.opened) (pointwise one_phase k.phases l.phases)
-    (pointwise_decides Decides-flag k.opened l.opened) (pointwise_decides Decides-phase k.phases l.phases)))
-    (parts_same k l)
-    (λ e. (
-      ap (λ (m : PrefixKind). m.place) e,
-      (ap (λ (m : PrefixKind). m.opened) e, ap (λ (m : PrefixKind). m.phases) e),
-    ))
+Decides-kind k l = (
+  λ e. one_kind k l (is_equal (kind_order k l) e),
+  λ e. ap is_eq (ap (kind_order k) (sym e) ∙ tied_itself kind_order_total k),
+)
 
 -- a list has a kind
 abbrev pub has_kind : List PrefixKind → PrefixKind → Bool

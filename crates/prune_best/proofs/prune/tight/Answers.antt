@@ -22,17 +22,10 @@ new_state-requires g c =
     let names = c.making.names.items in
     let new = c.making.states.items in
     let inv = c.making.invariant in
-    let at : c.len-in-making-3.result ≡ length new = omega (arith, c.len-in-making-3.ensures, c.making.states.ok) in
-    let inside : length new < length names = omega (
-      arith,
-      c.making-test.true,
-      c.len-in-making.ensures,
-      c.len-in-making-2.ensures,
-      c.making.states.ok,
-      c.making.names.ok,
-    ) in
-    let named = next_named names
-    (length new) c.len-in-making-3.result c.index-old.result.now inside at c.index-old.ensures in
+    let named = next_named names new c.len-in-making.result c.len-in-making-3.result c.index-old.result.now
+    (omega (arith, c.len-in-making.ensures, c.making.states.ok))
+    (omega (arith, c.making-test.true, c.len-in-making-2.ensures, c.making.names.ok))
+    (omega (arith, c.len-in-making-3.ensures, c.making.states.ok)) c.index-old.ensures in
     record {
       inside = omega (
         arith,
@@ -70,17 +63,10 @@ making-preserved g c =
     let new = c.making.states.items in
     let inv = c.making.invariant in
     let done = c.in_ok-state.ensures in
-    let at : c.len-in-making-3.result ≡ length new = omega (arith, c.len-in-making-3.ensures, c.making.states.ok) in
-    let inside : length new < length names = omega (
-      arith,
-      c.making-test.true,
-      c.len-in-making.ensures,
-      c.len-in-making-2.ensures,
-      c.making.states.ok,
-      c.making.names.ok,
-    ) in
-    let named = next_named names
-    (length new) c.len-in-making-3.result c.index-old.result.now inside at c.index-old.ensures in
+    let named = next_named names new c.len-in-making.result c.len-in-making-3.result c.index-old.result.now
+    (omega (arith, c.len-in-making.ensures, c.making.states.ok))
+    (omega (arith, c.making-test.true, c.len-in-making-2.ensures, c.making.names.ok))
+    (omega (arith, c.len-in-making-3.ensures, c.making.states.ok)) c.index-old.ensures in
     record {
       same = done.same ∙ inv.same;
       numbered = done.numbered;

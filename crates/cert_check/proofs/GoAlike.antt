@@ -1,17 +1,17 @@
--- Columns that no constraint of a stage tells apart go on alike up to this stage; and tests that are put
--- one behind the other.
-use Rattle.std.proofs.Common.{◌≡◌, ℕ, ◌+◌, ◌-◌, ◌<◌, ◌≤◌, Bool, cond, List, [], ◌∷◌, ◌++◌, length, map, take}
-use Rattle.std.proofs.Common.{get_or, sym, ap, ap₂, ◌∙◌, append_assoc, append-nil, below_more}
-use Rattle.std.proofs.lemmas.List.{take-take}
+-- Columns that are not told apart have moves that are alike; and tests that are put one behind the other.
+use Rattle.std.proofs.Common.{◌≡◌, ℕ, zero, suc, ◌+◌, ◌-◌, ◌<◌, Bool, true, false, cond, List, [], ◌∷◌, ◌++◌, length, map}
+use Rattle.std.proofs.Common.{take, drop, filter, get_or, refl, sym, ap, ap₂, ◌∙◌, subst, arith, append_assoc, append-nil}
+use Rattle.std.proofs.Common.{below_more}
 use Rattle.std.proofs.lemmas.List.Elements.{All-from_recursion, recursion_from_All, All-append}
 use Rattle.std.specs.List.{AllByRecursion}
-use Rattle.tier_core.specs.{declared.class.Class.Class, declared.sym.Sym.Sym, Classes.{sets_of, has}}
+use Rattle.tier_core.specs.{declared.class.Class.Class, declared.constraint.Constraint.Constraint}
+use Rattle.tier_core.specs.{declared.sym.Sym.Sym, Classes.{sets_of, has}, Sides.is_stretch}
 use Rattle.tier_core.specs.{Kinds.{Phase, PrefixKind}, Scan.opens, Timelines.{symbol, has_edge}}
-use Rattle.violation.specs.{Moves.{input_of, next_phases, next_kind, cost_of}, Prefixes.stretches}
-use Rattle.violation.specs.Problems.{Problem}
-use Rattle.violation.proofs.{TierLemmas.map_agree, WalkLemmas.all_split}
-use Rattle.cert_check.specs.{Alike.AreAlikeFor, Fitting.{GoOnAlike, OpenAlike}, Tests.{AddsTests, AgreeOn}}
-use Rattle.cert_check.proofs.AlikeMoves.{IsNextAlike, stretches_alike, all_next_alike, all_costs_alike, first_alike}
+use Rattle.violation.specs.Moves.{input_of, is_tier_open, next_phases, next_kind, cost_of, costs_each, move_costs}
+use Rattle.violation.specs.{Moves.{cut_kind, first_phase}, Prefixes.stretches, Problems.Problem}
+use Rattle.violation.proofs.{NextPhases.stretches_more, TierLemmas.map_agree, WalkLemmas.all_split}
+use Rattle.cert_check.specs.{Alike.AreAlikeFor, Fitting.OpenAlike, Left.MoveAlike, Tests.{AddsTests, AgreeOn}}
+use Rattle.cert_check.proofs.AlikeMoves.{IsNextAlike, all_next_alike}
 use Rattle.cert_check.proofs.TestLemmas.{adds_one}
 
 -- ---- tests one behind the other
@@ -69,25 +69,72 @@ each_open : (ts : List ℕ) (width : ℕ) (c d : List Sym) → AllByRecursion (�
 each_open [] width c d below h = tt
 each_open (t ∷ ts) width c d below h = (h t below.0, each_open ts _ c d below.1 h)
 
-module _ (problem : Problem) (stage : ℕ) (below : AllByRecursion (λ t. t < problem.tiers.width) problem.tiers.free)
-    (c d : List Sym) (edge : has_edge (input_of problem.tiers c) ≡ has_edge (input_of problem.tiers d))
-    (opened : OpenAlike problem.tiers.width c d)
-    (alike : AllByRecursion (λ x. AreAlikeFor x c d) (take stage problem.constraints)) where
-  moves : (r : ℕ) (k : PrefixKind) → r ≤ stage → next_kind problem r k c ≡ next_kind problem r k d
-  moves r k l =
-      let first : AllByRecursion (IsNextAlike c d) (stretches problem r) =
-      rw (take-take r stage problem.constraints l) at (stretches_alike _ r c d alike) in
-      let of : Bool → List Bool → List Phase
-      → PrefixKind = λ e bs ps. record { place = k.place + cond e 1 0; opened = bs; phases = ps } in
-      ap (λ e. of e (map (λ t. opens (symbol c t)) problem.tiers.free) (next_phases (stretches problem r) k.phases c))
-      edge ∙ ap₂ (of (has_edge (input_of problem.tiers d))) (map_agree _ _ _ (each_open _ _ c d below opened))
-      (all_next_alike _ c d first _)
+-- the phases of more constraints, where those of the first ones are the same
+phases_split : (cs more : List Constraint) (ps : List Phase) (c d : List Sym)
+    → next_phases cs (take (length cs) ps) c ≡ next_phases cs (take (length cs) ps) d
+    → AllByRecursion (IsNextAlike c d) more → next_phases (cs ++ more) ps c ≡ next_phases (cs ++ more) ps d
+phases_split [] more ps c d e a = all_next_alike more c d a ps
+phases_split (x ∷ cs) more [] c d e a = refl
+phases_split (x ∷ cs) more (p ∷ ps) c d e a =
+    ap₂ (λ q qs. q ∷ qs) (ap first_phase e) (phases_split cs more ps c d (ap (drop 1) e) a)
 
-  costs : (r : ℕ) (k : PrefixKind) → r ≤ stage → cost_of problem r k c ≡ cost_of problem r k d
-  costs r k l =
-      let first : AllByRecursion (λ x. AreAlikeFor x c d) (take r problem.constraints) =
-      rw (take-take r stage problem.constraints l) at (first_alike _ _ r alike) in
-      ap (λ ns. get_or ns (r - 1) 0) (all_costs_alike _ _ c d first _)
+-- the cost of one constraint among some
+cost_alike_at : (cs : List Constraint) (r : ℕ) (o : ℕ → Bool) (ps : List Phase) (x : Constraint) (c d : List Sym)
+    → r < length cs → x ≡ get_or cs r x → AreAlikeFor x c d
+    → get_or (costs_each (take (suc r) cs) o ps c) r 0 ≡ get_or (costs_each (take (suc r) cs) o ps d) r 0
+cost_alike_at [] r o ps x c d l is a = absurd (omega (arith, l))
+cost_alike_at (y ∷ cs) zero o ps x c d l is a =
+    let here : AreAlikeFor y c d = subst (λ z. AreAlikeFor z c d) is a in
+    ap (λ b. cond b 1 0) (here.cost o (first_phase ps))
+cost_alike_at (y ∷ cs) (suc r) o ps x c d l is a = cost_alike_at cs r o _ x c d (omega (arith, l)) is a
 
-  pub go_on_alike : GoOnAlike problem stage c d
-  go_on_alike = record { moves = moves; costs = costs }
+module _ (problem : Problem) (k : PrefixKind) (c d : List Sym) where
+  abbrev of : Bool → List Bool → List Phase → PrefixKind
+  of e bs ps = record { place = k.place + cond e 1 0; opened = bs; phases = ps }
+
+  -- at stage 0
+  pub first_moves : AllByRecursion (λ t. t < problem.tiers.width) problem.tiers.free
+      → has_edge (input_of problem.tiers c) ≡ has_edge (input_of problem.tiers d)
+      → OpenAlike problem.tiers.width c d → MoveAlike problem 0 k c d
+  first_moves below edge opened = record {
+    moves = ap (λ e. of e (map (λ t. opens (symbol c t)) problem.tiers.free) []) edge
+        ∙ ap (λ bs. of (has_edge (input_of problem.tiers d)) bs []) (map_agree _ _ _ (each_open _ _ c d below opened));
+    costs = refl;
+  }
+
+  -- at a later stage, if they lead to one kind of the stage before
+  pub next_moves : (r : ℕ) (x : Constraint) → r < length problem.constraints → x ≡ get_or problem.constraints r x
+      → next_kind problem r (cut_kind problem r k) c ≡ next_kind problem r (cut_kind problem r k) d
+      → AreAlikeFor x c d → MoveAlike problem (suc r) k c d
+  next_moves r x l is before alike = record {
+    moves = ap (λ n. of (has_edge (input_of problem.tiers c)) (map (λ t. opens (symbol c t)) problem.tiers.free) n) all
+        ∙ ap (λ (l : PrefixKind). of_kind l) before;
+    costs = at_last c ∙ cost_alike_at problem.constraints r (is_tier_open problem k) k.phases x c d l is alike
+        ∙ sym (at_last d);
+  }
+    where
+      at_last : (e : List Sym) → cost_of problem (suc r) k e
+          ≡ get_or (costs_each (take (suc r) problem.constraints) (is_tier_open problem k) k.phases e) r 0
+      at_last e = ap (λ n. get_or (move_costs problem (suc r) k e) n 0) (let f : suc r - 1 ≡ r = omega arith in f)
+
+      all : next_phases (stretches problem (suc r)) k.phases c ≡ next_phases (stretches problem (suc r)) k.phases d
+      all = by _ refl
+        where
+          by : (b : Bool) → is_stretch x ≡ b
+              → next_phases (stretches problem (suc r)) k.phases c ≡ next_phases (stretches problem (suc r)) k.phases d
+          by b h = subst (λ cs. next_phases cs k.phases c ≡ next_phases cs k.phases d)
+              (sym (ap (λ n. filter is_stretch (take n problem.constraints))
+              (let e : suc r ≡ r + 1 = omega arith in e) ∙ stretches_more problem.constraints r x b l is h))
+              (phases_split (stretches problem r) (cond b (x ∷ []) []) k.phases c d
+              (ap (λ (l : PrefixKind). l.phases) before) (told b h))
+            where
+              told : (b : Bool) → is_stretch x ≡ b → AllByRecursion (IsNextAlike c d) (cond b (x ∷ []) [])
+              told true e = (alike.next e, tt)
+              told false e = tt
+
+      of_kind : PrefixKind → PrefixKind
+      of_kind l = record {
+        place = l.place;
+        opened = l.opened;
+        phases = next_phases (stretches problem (suc r)) k.phases d;
+      }

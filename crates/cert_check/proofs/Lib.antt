@@ -13,11 +13,9 @@ pub mod OneFault
 pub mod Gathering
 pub mod LeastColumns
 pub mod ArcLists
-pub mod ArcSteps
 pub mod NumberSearch
 pub mod StateFaults
 pub mod StateSubjects
-pub mod LastStage
 pub mod StateSteps
 pub mod Searches
 pub mod Subjects
@@ -33,11 +31,13 @@ pub mod FittingSteps
 pub mod GoAlike
 pub mod UniformSteps
 pub mod TightSteps
-pub mod PrunedSteps
-pub mod TightLists
+pub mod PartedSteps
+pub mod ChosenClasses
 pub mod KeptSteps
 pub mod ColumnPlaces
 pub mod NodeSteps
+pub mod LeftSteps
+pub mod LastArcs
 pub mod StageSteps
 pub mod MovedSteps
 pub mod CheckSteps

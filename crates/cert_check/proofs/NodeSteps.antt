@@ -1,6 +1,7 @@
 -- The faults of one node: of its potential, and of its moves.
 use Rattle.std.proofs.Common.{◌≡◌, ◌≢◌, ℕ, zero, suc, ◌+◌, ◌<◌, ◌≤◌, true, false, IsTrue, List, [], ◌∷◌, length}
-use Rattle.std.proofs.Common.{get_or, refl, sym, ap, ◌∙◌, subst, arith, ⊎_elim, inl, inr}
+use Rattle.std.proofs.lemmas.Option.{slice_get_within}
+use Rattle.std.proofs.Common.{get_or, slice_get, Some, refl, sym, ap, ◌∙◌, subst, arith, ⊎_elim, inl, inr}
 use Rattle.std.proofs.lemmas.Bool.{cases_lt, false≢true, both_ways, or_cases}
 use Rattle.std.proofs.{lemmas.List.{get_or_default, get_or-map, length-map}, lemmas.List.Folds.list_any_at}
 use Rattle.std.specs.List.Sorted.{IsStrictlySortedBy}
@@ -11,21 +12,43 @@ use Rattle.tier_core.proofs.Filled.{has-first_column, first_column_least}
 use Rattle.violation.specs.{Moves.{next_kind, cost_of, is_final}, Prefixes.kind_of_bits, Problems.Problem}
 use Rattle.answer_text.specs.{declared.answer.Answer.Answer, declared.stage.Node.Node, declared.stage.Stage.Stage}
 use Rattle.answer_text.specs.{Right.{nodes_at, kinds_at}, Certified.{IsKeptBelow, Lists}}
-use Rattle.check_laws.proofs.Listing.{one_potential}
+use Rattle.check_laws.proofs.Listing.{lists_kind, one_potential}
 use Rattle.cert_check.specs.declared.fault.Fault.{Fault}
 use Rattle.cert_check.specs.declared.fault.Fault.TheVariants.{FinalPotential, NotClosed, Potential}
-use Rattle.cert_check.specs.Faults.{HasNode, IsNotClosed, HasHighPotential, IsUnlisted, TellsKind}
-use Rattle.cert_check.specs.{declared.kept_piece.KeptPiece.KeptPiece, Kept.{AreKeptPieces, IsKeptPiece, kept_classes}}
+use Rattle.cert_check.specs.declared.kept_piece.MoveTarget.{MoveTarget}
+use Rattle.cert_check.specs.declared.kept_piece.MoveTarget.TheVariants.{Node as NodeOf, Unlisted}
+use Rattle.cert_check.specs.Faults.{HasNode, IsNotClosed, HasHighPotential}
+use Rattle.cert_check.specs.{declared.kept_piece.KeptPiece.KeptPiece, Kept.{AreKeptPieces, IsKeptPiece, IsTargetOf}}
+use Rattle.cert_check.specs.Kept.{kept_classes, kinds_of}
 use Rattle.cert_check.specs.Nodes.{IsRightNode, IsRightPart, IsFirstInNode, IsMoveFault, AreWrongOn, AreRightOn}
 use Rattle.cert_check.specs.{Nodes.{IsNotAfter, IsLeastWrong}, Parts.{InNode, IsWrongMove}}
 use Rattle.cert_check.specs.Places.{IsBefore, column_place}
 use Rattle.cert_check.proofs.{ColumnPlaces.{before_or, not_both_before, not_after_is}, Parts.none_before}
-use Rattle.cert_check.proofs.Faultless.{some_same}
+use Rattle.cert_check.proofs.{Faultless.some_same, TightSteps.lists_there}
 
 -- a number is that of one node
 pub one_node : (answer : Answer) (stage n : ℕ) (a b : Node) → HasNode answer stage n a → HasNode answer stage n b → a
     ≡ b
 one_node answer stage n a b h k = some_same (sym h.numbered ∙ k.numbered)
+
+-- the node to which a piece leads tells where its moves lead
+pub leads_to : (problem : Problem) (stages : List Stage) (stage : ℕ) (k : PrefixKind) (piece : KeptPiece) (target : ℕ)
+    → IsKeptPiece problem stages stage k piece → piece.target ≡ NodeOf target → (column : List Sym)
+    → IsTrue (has piece.class column)
+    → slice_get (kinds_of problem stages stage) target ≡ Some (next_kind problem stage k column)
+leads_to problem stages stage k piece target kept to column h = subst
+    (λ t. IsTargetOf problem stages stage t (next_kind problem stage k column)) to (kept.leads column h)
+
+-- the number of that node is below their number
+pub node_below : (problem : Problem) (stages : List Stage) (stage : ℕ) (k : PrefixKind) (piece : KeptPiece)
+    (target : ℕ) → IsKeptPiece problem stages stage k piece → piece.target ≡ NodeOf target → (column : List Sym)
+    → IsTrue (has piece.class column) → target < length (nodes_at stages stage)
+node_below problem stages stage k piece target kept to column h = omega (
+  arith,
+  slice_get_within (kinds_of problem stages stage) target _
+      (leads_to problem stages stage k piece target kept to column h),
+  length-map (nodes_at stages stage) (λ (x : Node). kind_of_bits problem stage x.kind),
+)
 
 module _ (problem : Problem) (answer : Answer) (stage n : ℕ) (node : Node) (is : HasNode answer stage n node) where
   abbrev kind : PrefixKind
@@ -49,30 +72,36 @@ module _ (problem : Problem) (answer : Answer) (stage n : ℕ) (node : Node) (is
 
   -- ---- moves that are kept on the columns of a class, and lead to one target
 
-  module _ (class : Class) (target : Kind) (cost : ℕ)
+  module _ (class : Class) (target : MoveTarget) (cost : ℕ)
       (kept : (column : List Sym) → IsTrue (has class column)
       → IsKeptBelow problem answer.stages.items stage (kind_of_bits problem stage node.kind) column)
       (leads : (column : List Sym) → IsTrue (has class column)
-      → TellsKind problem stage target (next_kind problem stage (kind_of_bits problem stage node.kind) column))
+      → IsTargetOf problem answer.stages.items stage target
+      (next_kind problem stage (kind_of_bits problem stage node.kind) column))
       (costs : (column : List Sym) → IsTrue (has class column)
       → cost_of problem stage (kind_of_bits problem stage node.kind) column ≡ cost) where
-    pub not_closed : IsUnlisted problem answer.stages.items stage (kind_of_bits problem stage target)
-        → IsMoveFault problem answer stage n class (NotClosed stage n target)
-    not_closed none column h =
-        let wrong : IsNotClosed problem answer stage n column target = record {
+    pub not_closed : (missing : Kind) → target ≡ Unlisted missing
+        → IsMoveFault problem answer stage n class (NotClosed stage n missing)
+    not_closed missing e column h =
+        let to = subst (λ t. IsTargetOf problem answer.stages.items stage t
+        (next_kind problem stage (kind_of_bits problem stage node.kind) column)) e (leads column h) in
+        let wrong : IsNotClosed problem answer stage n column missing = record {
           node = node;
           is = is;
           kept = kept column h;
-          leads = leads column h;
-          unlisted = rw (leads column h).tells at none;
+          leads = to.0;
+          unlisted = λ p l. to.1 (lists_kind _ _ _ _ _ l);
         } in
-        (inl (target, wrong), (column, (wrong, refl)))
+        (inl (missing, wrong), (column, (wrong, refl)))
 
-    module _ (next : ℕ) (lists : Lists problem answer.stages.items stage (kind_of_bits problem stage target) next) where
+    module _ (number next : ℕ) (to : target ≡ NodeOf number)
+        (of : (other : Node) → next ≡ (get_or (nodes_at answer.stages.items stage) number other).potential) where
       listed_at : (column : List Sym) → IsTrue (has class column)
           → Lists problem answer.stages.items stage
           (next_kind problem stage (kind_of_bits problem stage node.kind) column) next
-      listed_at column h = rw (leads column h).tells at lists
+      listed_at column h = lists_there problem answer.stages.items stage _ number next (subst
+          (λ t. IsTargetOf problem answer.stages.items stage t
+          (next_kind problem stage (kind_of_bits problem stage node.kind) column)) to (leads column h)) of
 
       pub too_high : cost + next < node.potential
           → IsMoveFault problem answer stage n class (Potential stage n node.potential (cost + next))
@@ -268,17 +297,17 @@ never_none {problem} {answer} {stage} {n} least class some e filled right =
 -- ---- the pieces that are kept
 
 -- a piece at a place among pieces that are kept
-pub record IsPieceAt (problem : Problem) (stages : List Stage) (stage below : ℕ) (k : PrefixKind)
+pub record IsPieceAt (problem : Problem) (stages : List Stage) (stage : ℕ) (k : PrefixKind)
     (pieces : List KeptPiece) (n : ℕ) (piece : KeptPiece) : Type 0 where
   pub within : n < length (kept_classes pieces)
   pub class : piece.class ≡ get_or (kept_classes pieces) n piece.class
   pub filled : IsTrue (is_filled piece.class)
-  pub keeps : (column : List Sym) → IsTrue (has piece.class column) → IsKeptBelow problem stages below k column
-  pub told : IsKeptPiece problem stage k piece
+  pub keeps : (column : List Sym) → IsTrue (has piece.class column) → IsKeptBelow problem stages stage k column
+  pub told : IsKeptPiece problem stages stage k piece
 
-pub piece_at : {problem : Problem} {stages : List Stage} {stage below : ℕ} {k : PrefixKind} {pieces : List KeptPiece}
-    → AreKeptPieces problem stages stage below k pieces → (n : ℕ) (piece : KeptPiece) → n < length pieces
-    → piece ≡ get_or pieces n piece → IsPieceAt problem stages stage below k pieces n piece
+pub piece_at : {problem : Problem} {stages : List Stage} {stage : ℕ} {k : PrefixKind} {pieces : List KeptPiece}
+    → AreKeptPieces problem stages stage k pieces → (n : ℕ) (piece : KeptPiece) → n < length pieces
+    → piece ≡ get_or pieces n piece → IsPieceAt problem stages stage k pieces n piece
 piece_at {problem} {stage = stage} {k = k} {pieces} kept n piece inside is =
     let within : n < length (kept_classes pieces) =
     omega (arith, inside, length-map pieces (λ (p : KeptPiece). p.class)) in

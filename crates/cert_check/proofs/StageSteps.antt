@@ -1,17 +1,19 @@
 -- The faults of a stage, node by node, and at last the potential of its start.
 use Rattle.std.proofs.Common.{◌≡◌, ◌≢◌, ℕ, zero, suc, ◌<◌, ◌≤◌, List, [], ◌∷◌, length, get_or, slice_get, Some}
-use Rattle.std.proofs.Common.{refl, sym, ap, ◌∙◌, subst, arith, inl, inr}
+use Rattle.std.proofs.Common.{refl, sym, ap, ◌∙◌, subst, arith, inl, inr, ◌-◌, Contains}
 use Rattle.std.proofs.lemmas.Option.{slice_get_within, slice_get-get_or, get_or_from_slice_get}
 use Rattle.std.proofs.lemmas.List.{length-map}
+use Rattle.std.specs.Global.{Vec}
 use Rattle.tier_core.specs.declared.sym.Sym.{Sym}
-use Rattle.violation.specs.{Prefixes.{kind_of, kind_of_bits}, Problems.{Problem, last_place, last_stage}}
+use Rattle.violation.specs.{Moves.cut_kind, Prefixes.{kind_of, kind_of_bits}, Problems.{Problem, last_place, last_stage}}
+use Rattle.answer_text.specs.declared.automaton.ArcLine.{ArcLine}
 use Rattle.answer_text.specs.{declared.answer.Answer.Answer, declared.stage.Node.Node, Certified.start_potential}
 use Rattle.cert_check.specs.{declared.fault.Fault.Fault, declared.fault.Fault.TheVariants.StartPotential}
-use Rattle.cert_check.specs.{declared.subject.Subject.Subject, Faults.HasNode}
+use Rattle.cert_check.specs.{declared.subject.Subject.Subject, Faults.HasNode, Left.{AreLeftAt, IsAfter}}
 use Rattle.cert_check.specs.{Nodes.{IsRightNode, IsFaultlessStage, IsFirstInNode}, FirstFaults.IsFirstFault}
 use Rattle.cert_check.specs.Parts.{HasRightHead, InAnswer, InNode, InStage, IsFirstInStage, IsWrongMove}
 use Rattle.cert_check.specs.Places.{IsBefore}
-use Rattle.cert_check.specs.Subjects.{IsReady, AreFirstNodesInOrder, problem_of, stage_nodes, stage_kinds}
+use Rattle.cert_check.specs.Subjects.{IsReady, AreFirstNodesInOrder, AscendsAt, problem_of, stage_nodes, stage_kinds}
 use Rattle.cert_check.proofs.Orders.{numbered_is}
 use Rattle.cert_check.proofs.Heads.{form_part, numbers_part, example_part, counts_part, head_parts}
 use Rattle.cert_check.proofs.{Parts.{none_before, first_by_stage}, Starts.order_part, Subjects.in_stages}
@@ -38,6 +40,21 @@ module _ (s : Subject) (stage : ℕ) (ready : IsReady s) (within : stage ≤ las
   place_in order n node h =
       let o = order n (slice_get_within _ n _ h.numbered) in
       subst (λ k. k.place ≤ last_place (problem_of s)) (sym (numbered_is s _ n _ h)) o.possible.place
+
+  -- what was found at the stage before serves a node that stands where it may
+  pub after_before : AreFirstNodesInOrder s stage (length (stage_nodes s stage)) → (n : ℕ) (node : Node)
+      (lists : List (Vec ArcLine)) → HasNode s.answer.now stage n node
+      → (1 ≤ stage → AscendsAt s (stage - 1) × AreLeftAt s (stage - 1) lists) → 1 ≤ stage
+      → IsAfter s stage node.kind lists
+  after_before order n node lists h before one =
+      let b = before one in
+      let o = order n (slice_get_within _ n _ h.numbered) in
+      record {
+        ascends = b.0;
+        cut = subst (λ k. Contains (stage_kinds s (stage - 1)) (cut_kind (problem_of s) (stage - 1) k))
+            (sym (numbered_is s _ n _ h)) (o.cut_before one);
+        left = b.1;
+      }
 
   module _ (order : AreFirstNodesInOrder s stage (length (stage_nodes s stage)))
       (start : slice_get (stage_kinds s stage) 0 ≡ Some (kind_of (problem_of s) stage [])) where

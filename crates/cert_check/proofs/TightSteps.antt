@@ -1,32 +1,20 @@
 -- Moves that are tight at a stage, by what is listed there.
 use Rattle.std.proofs.Common.{◌≡◌, ◌↔◌, ℕ, zero, suc, ◌+◌, ◌==◌, ◌<◌, ◌≤◌, ◌^◌, Bool, true, false, cond, IsTrue}
 use Rattle.std.proofs.Common.{List, [], ◌∷◌, length, filter, take, get_or, slice_get, Some, refl, sym, ap, ◌∙◌}
-use Rattle.std.proofs.{Common.{arith, eq-eqb, eqb-true}, lemmas.Bool.false≢true}
+use Rattle.std.proofs.{Common.{arith, eq-eqb, eqb-true}}
 use Rattle.std.proofs.{lemmas.List.{get_or-map, get_or_default, length-map}, lemmas.List.Elements.Contains-get_or}
 use Rattle.std.proofs.lemmas.Option.{slice_get_within, get_or_from_slice_get}
 use Rattle.tier_core.specs.{declared.constraint.Constraint.Constraint, declared.kind.Kind.Kind, declared.sym.Sym.Sym}
-use Rattle.tier_core.specs.{Kinds.{AreStretchesBelow, PrefixKind, phase_at}, KindShapes.{FitsShape, free_count}}
+use Rattle.tier_core.specs.{Kinds.PrefixKind, KindShapes.FitsShape}
 use Rattle.tier_core.specs.Sides.{is_stretch}
 use Rattle.violation.specs.{Moves.{next_kind, cost_of, cut_kind}, Prefixes.{kind_of_bits}}
 use Rattle.violation.specs.Problems.{Problem, last_stage}
 use Rattle.answer_text.specs.{declared.stage.Node.Node, declared.stage.Stage.Stage, Right.{nodes_at, kinds_at}}
 use Rattle.answer_text.specs.Certified.{IsTightAt, Lists}
 use Rattle.check_laws.proofs.Listing.{one_potential}
-use Rattle.cert_check.specs.{declared.subject.Subject.Subject, Faults.{IsUnlisted, TellsKind}, Fitting.GoOnAlike}
+use Rattle.cert_check.specs.{declared.subject.Subject.Subject, Faults.TellsKind}
 use Rattle.cert_check.specs.Subjects.{IsReady, AscendsAt, problem_of}
-use Rattle.cert_check.proofs.Subjects.{cut_told, free_same, stretch_same, stage_in}
-
--- ---- columns that go on alike
-
-pub tight_same : (problem : Problem) (stages : List Stage) (stage j : ℕ) (k : PrefixKind) (c d : List Sym)
-    → GoOnAlike problem stage c d → j ≤ stage → IsTightAt problem stages j k c → IsTightAt problem stages j k d
-tight_same problem stages stage j k c d a l t = record {
-  before = t.before;
-  after = t.after;
-  leaves = t.leaves;
-  arrives = rw (a.moves j (cut_kind problem j k) l) at t.arrives;
-  falls = t.falls ∙ ap (λ n. n + t.after) (a.costs j (cut_kind problem j k) l);
-}
+use Rattle.cert_check.proofs.Subjects.{free_same, stretch_same, stage_in}
 
 -- ---- what is listed
 
@@ -83,11 +71,6 @@ module _ (s : Subject) (j : ℕ) (ascends : AscendsAt s j) (k : PrefixKind) (col
         omega (arith, first, last, t.falls, e)),
   )
 
-  pub never_reached : IsUnlisted (problem_of s) stages j
-      (next_kind (problem_of s) j (cut_kind (problem_of s) j k) column)
-      → IsTrue false ↔ IsTightAt (problem_of s) stages j k column
-  never_reached none = (λ h. absurd (false≢true h), λ t. absurd (none t.after t.arrives))
-
 -- ---- kinds that are cut to an earlier stage
 
 counted : (b : Bool) (x : Constraint) (xs ys : List Constraint) → length xs ≤ length ys
@@ -95,34 +78,12 @@ counted : (b : Bool) (x : Constraint) (xs ys : List Constraint) → length xs �
 counted true x xs ys l = omega arith
 counted false x xs ys l = l
 
-stretches_rise : (cs : List Constraint) (r n : ℕ) → r ≤ n
+pub stretches_rise : (cs : List Constraint) (r n : ℕ) → r ≤ n
     → length (filter is_stretch (take r cs)) ≤ length (filter is_stretch (take n cs))
 stretches_rise cs zero n l = omega arith
 stretches_rise cs (suc r) zero l = absurd (omega arith)
 stretches_rise [] (suc r) (suc n) l = omega arith
 stretches_rise (c ∷ cs) (suc r) (suc n) l = counted _ c _ _ (stretches_rise cs r n (omega arith))
-
-module _ (s : Subject) (ready : IsReady s) (stage j : ℕ) (within : stage ≤ last_stage (problem_of s))
-    (earlier : j ≤ stage)
-    (kind result : Kind) (count : ℕ) (is : count ≡ get_or s.shape.now.phases.items j count)
-    (opened : result.opened ≡ kind.opened) (below : AreStretchesBelow count result) where
-  last : j ≤ last_stage (problem_of s)
-  last = omega arith
-
-  pub cut_fits_at : kind.opened < 2 ^ free_count s.shape.now → FitsShape s.shape.now j result
-  cut_fits_at less = record {
-    within = stage_in s ready j last;
-    opened = rw opened less;
-    stretches = rw (is ∙ get_or_default _ j _ 0 (stage_in s ready j last)) at below;
-  }
-
-  pub cut_told_at : result.place ≡ kind.place → ((i : ℕ) → i < count → phase_at result i ≡ phase_at kind i)
-      → kind_of_bits (problem_of s) j result ≡ cut_kind (problem_of s) j (kind_of_bits (problem_of s) stage kind)
-  cut_told_at place same =
-      let number =
-      is ∙ get_or_default _ j _ 0 (stage_in s ready j last) ∙ stretch_same s ready j last in
-      cut_told (problem_of s) result kind j stage (stretches_rise (problem_of s).constraints j stage earlier) place
-      opened (λ i l. same i (omega (arith, l, number)))
 
 -- bits that tell a kind of a stage fit the shape there
 pub tells_fit : (s : Subject) → IsReady s → (stage : ℕ) → stage ≤ last_stage (problem_of s) → (kind : Kind)

@@ -8,7 +8,7 @@ use Rattle.tier_core.specs.Scan.{opens}
 use Rattle.tier_core.specs.Timelines.{symbol, has_edge}
 use Rattle.symbol_class.specs.Held.{some_has, ArePieces}
 use Rattle.symbol_class.specs.Parts.{IsAlike, IsPartOf}
-use Rattle.violation.specs.Moves.{input_of, FitsKind, next_kind, cost_of}
+use Rattle.violation.specs.Moves.{input_of, FitsKind}
 use Rattle.violation.specs.Problems.{Problem}
 use Rattle.cert_check.specs.Pieces.{IsUniform}
 
@@ -33,13 +33,3 @@ pub record ArePartedByTests (width : ℕ) (tests : List Class) (wholes parts : L
 -- the same tiers are open after two columns
 abbrev pub OpenAlike : ℕ → List Sym → List Sym → Type 0
 OpenAlike width c d = (t : ℕ) → t < width → opens (symbol c t) ≡ opens (symbol d t)
-
--- Two columns go on alike up to a stage, from any kind: their moves lead to one kind, and cost the same.
-pub record GoOnAlike (problem : Problem) (stage : ℕ) (c d : List Sym) : Type 0 where
-  pub moves : (r : ℕ) (k : PrefixKind) → r ≤ stage → next_kind problem r k c ≡ next_kind problem r k d
-  pub costs : (r : ℕ) (k : PrefixKind) → r ≤ stage → cost_of problem r k c ≡ cost_of problem r k d
-
--- all columns of a class go on alike up to a stage
-abbrev pub IsGoingAlike : Problem → ℕ → Class → Type 0
-IsGoingAlike problem stage class = (c d : List Sym) → IsTrue (has class c) → IsTrue (has class d)
-    → GoOnAlike problem stage c d

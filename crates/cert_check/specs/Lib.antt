@@ -5,7 +5,6 @@ pub mod Parts
 pub mod Heads
 pub mod Stops
 pub mod Subjects
-pub mod Sources
 pub mod Opens
 pub mod Possible
 pub mod Searches
@@ -14,11 +13,10 @@ pub mod Boxes
 pub mod Tests
 pub mod Pieces
 pub mod Kept
-pub mod Pruned
+pub mod Left
 pub mod Fitting
 pub mod Nodes
 pub mod States
-pub mod KeptArcs
 pub mod Verdicts
 pub mod Arcs
 pub mod Gathered

@@ -1,10 +1,12 @@
 -- Which tiers are open at a kind, tier by tier.
-use Rattle.std.specs.Prelude.{ℕ, zero, suc, ◌-◌, Bool, false, if◌then◌else◌, List, length, filter, take}
+use Rattle.std.specs.Prelude.{ℕ, zero, suc, ◌-◌, ◌≡◌, ◌<◌, Bool, false, if◌then◌else◌, List, length, filter, take}
+use Rattle.tier_core.specs.declared.kind.Kind.{Kind}
 use Rattle.tier_core.specs.declared.sym.Sym.{Sym}
 use Rattle.tier_core.specs.declared.tier.TierKind.{TierKind}
 use Rattle.tier_core.specs.Scan.{opens}
 use Rattle.tier_core.specs.Timelines.{symbol, column_at}
 use Rattle.tier_core.specs.Tiers.{is_input, kind_at, has_tier}
+use Rattle.cert_check.specs.declared.subject.Subject.{Subject}
 
 -- whether an input tier is open at a place of a form: its symbol in the column before opens it
 abbrev pub is_open_before : List (List Sym) → ℕ → ℕ → Bool
@@ -20,3 +22,8 @@ abbrev pub is_open_by : List TierKind → List (List Sym) → ℕ → ℕ → �
 is_open_by kinds u place opened tier =
     if is_input (kind_at kinds tier) then is_open_before u place (inputs_before kinds tier)
     else has_tier opened (tier - inputs_before kinds tier)
+
+-- a mask has just the tiers that are open at a kind
+abbrev pub IsOpenAt : Subject → Kind → ℕ → Type 0
+IsOpenAt s kind mask = (t : ℕ) → t < length s.grammar.now.tiers.kinds.items
+    → has_tier mask t ≡ is_open_by s.grammar.now.tiers.kinds.items s.answer.now.form kind.place kind.opened t

@@ -9,7 +9,7 @@ ghost use Rattle.violation.specs.Counts.{choice_types};
 ghost use Rattle.violation.specs.Moves.{cost_of, costs, is_unmet_phase};
 ghost use Rattle.violation.specs.Prefixes.{kind_of_bits};
 ghost use Rattle.violation.specs.Problems.{last_place, last_stage};
-ghost use Rattle.cert_check.specs.Sources.{IsOpenAt};
+ghost use Rattle.cert_check.specs.Opens.{IsOpenAt};
 ghost use Rattle.cert_check.specs.Subjects.{IsReady, problem_of};
 
 use crate::open::{are_all_open, open_tiers};

@@ -1,27 +1,48 @@
-ghost use Rattle.std.specs.Prelude.{◌≡◌, ◌+◌, ◌<◌, ◌≤◌, ℕ, All, IfOk, IsTrue, List, OnOk, length};
-ghost use Rattle.tier_core.specs.declared.sym.Sym.{Sym};
+ghost use Rattle.std.specs.Prelude.{◌≡◌, ◌<◌, ◌≤◌, All, IfOk, IsTrue, OnOk, length};
 ghost use Rattle.tier_core.specs.Classes.{sets_of};
 ghost use Rattle.tier_core.specs.KindShapes.{FitsShape};
 ghost use Rattle.tier_core.specs.Filled.{is_filled};
+ghost use Rattle.symbol_class.specs.Held.{ArePieces};
+ghost use Rattle.violation.specs.Moves.{next_kind};
 ghost use Rattle.violation.specs.Prefixes.{kind_of_bits};
 ghost use Rattle.violation.specs.Problems.{last_place, last_stage};
-ghost use Rattle.cert_check.specs.Fitting.{IsGoingAlike};
-ghost use Rattle.cert_check.specs.Kept.{AddsKept, AreKeptPieces, AreKeptOf};
-ghost use Rattle.cert_check.specs.Pruned.{IsAlikeTo};
-ghost use Rattle.cert_check.specs.Sources.{IsOpenAt};
+ghost use Rattle.cert_check.specs.Kept.{AddsKept, AreKeptPieces, AreKeptOf, IsTargetOf};
+ghost use Rattle.cert_check.specs.Left.{AreTestsAt, IsAfter, IsMovingAlike};
+ghost use Rattle.cert_check.specs.Opens.{IsOpenAt};
 ghost use Rattle.cert_check.specs.Subjects.{IsReady, AscendsAt, problem_of};
 
 use crate::costs::{cost, open_at};
-use crate::kept_piece::KeptPiece;
+use crate::find::find_kind;
+use crate::kept_piece::{KeptPiece, MoveTarget};
 use crate::moves::next_kind;
-use crate::pruned::pruned_pieces;
+use crate::parted::kept_parts;
 use crate::subject::Subject;
+use answer_text::ArcLine;
 use std::alloc::{AllocError, Global};
 use symbol_class::least_column;
-use tier_core::{Class, Kind, NoMemory};
+use tier_core::{Class, Kind, NoMemory, Sym};
 
-/// Puts columns that go on alike at the end of a list, with the kind to which they lead and their cost.
-/// The tiers of the mask are open at the kind from which they lead.
+/// Where the move of a kind of a stage leads by a column.
+fn target_of(subject: &Subject, stage: u32, kind: &Kind, column: &[Sym]) -> MoveTarget
+    requires ready { IsReady subject.now }
+    requires stage { stage ≤ last_stage (problem_of subject.now) }
+    requires ascends { AscendsAt subject.now stage }
+    requires fits { FitsShape subject.now.shape.now stage kind.now }
+    requires place { kind.now.place ≤ last_place (problem_of subject.now) }
+    requires width { length column.now ≡ (problem_of subject.now).tiers.width }
+    ensures { IsTargetOf (problem_of subject.now) subject.now.answer.now.stages.items stage result
+        (next_kind (problem_of subject.now) stage
+        (kind_of_bits (problem_of subject.now) stage kind.now) column.now) }
+{
+    let target = next_kind(subject, stage, kind, column);
+    match find_kind(subject, stage, &target) {
+        Some(number) => MoveTarget::Node(number as u32),
+        None => MoveTarget::Unlisted(target),
+    }
+}
+
+/// Puts columns whose moves are alike at the end of a list, with their target and their cost. The tiers
+/// of the mask are open at the kind from which they lead.
 fn push_kept(
     alloc: Global,
     kept: &mut Vec<KeptPiece>,
@@ -33,20 +54,22 @@ fn push_kept(
 ) -> Result<(), AllocError>
     requires ready { IsReady subject.now }
     requires stage { stage ≤ last_stage (problem_of subject.now) }
+    requires ascends { AscendsAt subject.now stage }
     requires fits { FitsShape subject.now.shape.now stage kind.now }
     requires place { kind.now.place ≤ last_place (problem_of subject.now) }
     requires opened { IsOpenAt subject.now kind.now mask }
     requires width { length (sets_of class.now) ≡ (problem_of subject.now).tiers.width }
     requires filled { IsTrue (is_filled class.now) }
-    requires alike { IsGoingAlike (problem_of subject.now) stage class.now }
+    requires alike { IsMovingAlike (problem_of subject.now) stage
+        (kind_of_bits (problem_of subject.now) stage kind.now) class.now }
     ensures { OnOk result
-        (AddsKept (problem_of subject.now) stage
+        (AddsKept (problem_of subject.now) subject.now.answer.now.stages.items stage
         (kind_of_bits (problem_of subject.now) stage kind.now) class.now kept.old.items
         kept.new.items) }
 {
     let least = least_column(alloc, class);
     let column = least.syms();
-    let target = next_kind(subject, stage, kind, column);
+    let target = target_of(subject, stage, kind, column);
     let cost = cost(subject, stage, kind, mask, column);
     kept.push(KeptPiece {
         class: *class,
@@ -56,7 +79,7 @@ fn push_kept(
     Ok(())
 }
 
-/// Pieces of the columns of a kind, each with the kind to which its columns lead and what they cost.
+/// Pieces of the columns of a kind, each with the target of its moves and what they cost.
 fn kept_of(
     alloc: Global,
     subject: &Subject,
@@ -66,15 +89,15 @@ fn kept_of(
 ) -> Result<Vec<KeptPiece>, AllocError>
     requires ready { IsReady subject.now }
     requires stage { stage ≤ last_stage (problem_of subject.now) }
+    requires ascends { AscendsAt subject.now stage }
     requires fits { FitsShape subject.now.shape.now stage kind.now }
     requires place { kind.now.place ≤ last_place (problem_of subject.now) }
-    requires width { All
-        (λ class. length (sets_of class) ≡ (problem_of subject.now).tiers.width) pieces.now }
-    requires filled { All (λ class. IsTrue (is_filled class)) pieces.now }
-    requires alike { All (IsAlikeTo (problem_of subject.now) stage) pieces.now }
+    requires pieces { ArePieces (problem_of subject.now).tiers.width pieces.now }
+    requires alike { All (IsMovingAlike (problem_of subject.now) stage
+        (kind_of_bits (problem_of subject.now) stage kind.now)) pieces.now }
     ensures { IfOk result
         (λ kept.
-        AreKeptOf (problem_of subject.now) stage
+        AreKeptOf (problem_of subject.now) subject.now.answer.now.stages.items stage
         (kind_of_bits (problem_of subject.now) stage kind.now) pieces.now kept.items) }
 {
     let mask = open_at(subject, kind);
@@ -85,28 +108,30 @@ fn kept_of(
     Ok(kept)
 }
 
-/// The columns on which the move of a kind of a stage is kept below another stage, in pieces that lead
-/// to one kind and cost the same. Fails only if memory runs out.
+/// The columns on which the moves of a kind of a stage are kept there, in pieces that lead to one kind and
+/// cost the same. Fails only if memory runs out.
 pub(crate) fn kept_pieces(
     alloc: Global,
     subject: &Subject,
     stage: u32,
-    below: u32,
     kind: &Kind,
+    tests: &[Class],
+    before: &[Vec<ArcLine>],
 ) -> Result<Vec<KeptPiece>, NoMemory>
     requires ready { IsReady subject.now }
     requires stage { stage ≤ last_stage (problem_of subject.now) }
-    requires below { below ≤ stage + 1 }
-    requires ascend { (j : ℕ) → 1 ≤ j → j < below → AscendsAt subject.now j }
+    requires ascends { AscendsAt subject.now stage }
     requires fits { FitsShape subject.now.shape.now stage kind.now }
     requires place { kind.now.place ≤ last_place (problem_of subject.now) }
+    requires tests { AreTestsAt (problem_of subject.now) stage tests.now }
+    requires before { 1 ≤ stage → IsAfter subject.now stage kind.now before.now }
     ensures { IfOk result
         (λ pieces.
-        AreKeptPieces (problem_of subject.now) subject.now.answer.now.stages.items stage below
+        AreKeptPieces (problem_of subject.now) subject.now.answer.now.stages.items stage
         (kind_of_bits (problem_of subject.now) stage kind.now) pieces.items) }
 {
-    let pieces = pruned_pieces(alloc, subject, stage, below, kind)?;
-    match kept_of(alloc, subject, stage, kind, &pieces) {
+    let parts = kept_parts(alloc, subject, stage, kind, tests, before)?;
+    match kept_of(alloc, subject, stage, kind, &parts) {
         Ok(kept) => Ok(kept),
         Err(_) => Err(NoMemory),
     }

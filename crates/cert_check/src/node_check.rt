@@ -1,4 +1,4 @@
-ghost use Rattle.std.specs.Prelude.{◌≡◌, ℕ, ◌+◌, ◌<◌, ◌≤◌, ◌^◌, All, IfErr, IsTrue, List, MatchOption, OnOk, length, map, slice_index_or};
+ghost use Rattle.std.specs.Prelude.{◌≡◌, ℕ, ◌+◌, ◌<◌, ◌≤◌, ◌^◌, All, IfErr, IfOk, IsTrue, List, MatchOption, OnOk, length, map, slice_index_or};
 ghost use Rattle.tier_core.specs.declared.sym.Sym.{Sym};
 ghost use Rattle.tier_core.specs.Classes.{has};
 ghost use Rattle.std.specs.Ordering.{is_gt};
@@ -9,6 +9,7 @@ ghost use Rattle.violation.specs.Prefixes.{kind_of_bits};
 ghost use Rattle.violation.specs.Problems.{last_place, last_stage};
 ghost use Rattle.answer_text.specs.Certified.{IsKeptBelow};
 ghost use Rattle.cert_check.specs.Faults.{HasNode};
+ghost use Rattle.cert_check.specs.Left.{AreLeft, AreTestsAt, IsAfter};
 ghost use Rattle.cert_check.specs.Kept.{AreKeptPieces, IsKeptPiece, kept_classes};
 ghost use Rattle.cert_check.specs.Nodes.{IsMoveFault, IsFirstInNode, IsLeastWrong, IsNotAfter, IsRightNode, IsRightPart, AreRightOn, AreWrongOn};
 ghost use Rattle.cert_check.specs.Stops.{StopsBy};
@@ -17,11 +18,12 @@ ghost use Rattle.cert_check.specs.Subjects.{IsReady, AscendsAt, problem_of};
 use crate::fault::Fault;
 use crate::final_kind::is_final;
 use crate::kept::kept_pieces;
-use crate::kept_piece::KeptPiece;
+use crate::kept_piece::{KeptPiece, MoveTarget};
+use crate::left::arcs_left;
+use crate::potentials::potential_at;
 use crate::stop::Stop;
 use crate::subject::Subject;
-use crate::tight::potential_of;
-use answer_text::Node;
+use answer_text::{ArcLine, Node};
 use std::alloc::Global;
 use symbol_class::least_column;
 use tier_core::{Class, column_cmp};
@@ -65,18 +67,21 @@ fn move_fault(
     requires kept { (column : List Sym) → IsTrue (has piece.now.class column)
         → IsKeptBelow (problem_of subject.now) subject.now.answer.now.stages.items stage
         (kind_of_bits (problem_of subject.now) stage node.now.kind) column }
-    requires piece { IsKeptPiece (problem_of subject.now) stage
+    requires piece { IsKeptPiece (problem_of subject.now) subject.now.answer.now.stages.items stage
         (kind_of_bits (problem_of subject.now) stage node.now.kind) piece.now }
     ensures { MatchOption result
         (AreRightOn (problem_of subject.now) subject.now.answer.now stage number piece.now.class)
         (IsMoveFault (problem_of subject.now) subject.now.answer.now stage number piece.now.class) }
 {
-    let Some(next) = potential_of(subject, stage, &piece.target) else {
-        return Some(Fault::NotClosed {
-            stage,
-            node: number,
-            missing: piece.target,
-        });
+    let next = match piece.target {
+        MoveTarget::Node(target) => potential_at(subject, stage, target as usize),
+        MoveTarget::Unlisted(missing) => {
+            return Some(Fault::NotClosed {
+                stage,
+                node: number,
+                missing,
+            });
+        }
     };
     let allowed = piece.cost + next;
     if node.potential > allowed {
@@ -114,7 +119,6 @@ fn next_best(
     requires ascends { AscendsAt subject.now stage }
     requires is { HasNode subject.now.answer.now stage number node.now }
     requires kept { AreKeptPieces (problem_of subject.now) subject.now.answer.now.stages.items stage
-        stage
         (kind_of_bits (problem_of subject.now) stage node.now.kind) pieces.now }
     requires within { next < length pieces.now }
     requires so_far { IsLeastWrong (problem_of subject.now) subject.now.answer.now stage number
@@ -153,7 +157,6 @@ fn check_pieces(
     requires potential { IsRightPart (problem_of subject.now) subject.now.answer.now
         stage number 0 }
     requires kept { AreKeptPieces (problem_of subject.now) subject.now.answer.now.stages.items stage
-        stage
         (kind_of_bits (problem_of subject.now) stage node.now.kind) pieces.now }
     ensures ok { OnOk result
         (IsRightPart (problem_of subject.now) subject.now.answer.now stage number 1) }
@@ -173,25 +176,35 @@ fn check_pieces(
     }
 }
 
-/// Looks at the potential of a node, and then at its moves. It stops at the first fault.
+/// Looks at the potential of a node, and then at its moves. It stops at the first fault, and otherwise
+/// gives what is left of the moves after the stage.
 pub(crate) fn check_node(
     alloc: Global,
     subject: &Subject,
     stage: u32,
     number: u32,
     node: &Node,
-) -> Result<(), Stop>
+    tests: &[Class],
+    before: &[Vec<ArcLine>],
+) -> Result<Vec<ArcLine>, Stop>
     requires ready { IsReady subject.now }
     requires stage { stage ≤ last_stage (problem_of subject.now) }
-    requires ascend { (j : ℕ) → j ≤ stage → AscendsAt subject.now j }
+    requires ascends { AscendsAt subject.now stage }
     requires is { HasNode subject.now.answer.now stage number node.now }
     requires place { node.now.kind.place ≤ last_place (problem_of subject.now) }
+    requires tests { AreTestsAt (problem_of subject.now) stage tests.now }
+    requires before { 1 ≤ stage → IsAfter subject.now stage node.now.kind before.now }
     ensures ok { OnOk result
         (IsRightNode (problem_of subject.now) subject.now.answer.now stage number) }
+    ensures left { IfOk result (λ arcs.
+        AreLeft (problem_of subject.now) subject.now.answer.now.stages.items stage
+        (kind_of_bits (problem_of subject.now) stage node.now.kind) arcs.items) }
     ensures err { IfErr result
         (StopsBy (IsFirstInNode (problem_of subject.now) subject.now.answer.now stage number)) }
 {
     check_final(subject, stage, number, node)?;
-    let pieces = kept_pieces(alloc, subject, stage, stage, &node.kind)?;
-    check_pieces(alloc, subject, stage, number, node, &pieces)
+    let pieces = kept_pieces(alloc, subject, stage, &node.kind, tests, before)?;
+    check_pieces(alloc, subject, stage, number, node, &pieces)?;
+    let arcs = arcs_left(alloc, subject, stage, number, node, &pieces)?;
+    Ok(arcs)
 }

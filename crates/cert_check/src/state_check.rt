@@ -1,7 +1,7 @@
 ghost use Rattle.std.specs.Prelude.{◌≡◌, ◌↔◌, IfErr, IsTrue, OnOk};
 ghost use Rattle.violation.specs.Problems.{last_stage};
 ghost use Rattle.cert_check.specs.Parts.{IsFirstInState};
-ghost use Rattle.cert_check.specs.States.{IsRightPartOf, IsRightState, IsRightBeforeStates, IsStateAt};
+ghost use Rattle.cert_check.specs.States.{AreKeptArcs, IsRightPartOf, IsRightState, IsRightBeforeStates, IsStateAt, last_kind};
 ghost use Rattle.cert_check.specs.Stops.{StopsBy};
 ghost use Rattle.cert_check.specs.Subjects.{problem_of};
 
@@ -9,12 +9,11 @@ use crate::differing::least_differing;
 use crate::fault::Fault;
 use crate::final_kind::is_final;
 use crate::find_state::has_state;
-use crate::kept_arcs::kept_arcs;
 use crate::overlap::least_twice;
 use crate::stop::Stop;
 use crate::subject::Subject;
 use crate::target::target_on;
-use answer_text::{Node, StateLine};
+use answer_text::{ArcLine, Node, StateLine};
 use std::alloc::Global;
 
 /// Looks at the targets of a state's arcs. Each is a state.
@@ -89,11 +88,18 @@ fn check_once(alloc: Global, subject: &Subject, state: &StateLine, node: &Node) 
     }
 }
 
-/// Compares the arcs of a state, no two of which share a column, with the moves that are kept at the
-/// end.
-fn check_arcs(alloc: Global, subject: &Subject, state: &StateLine, node: &Node) -> Result<(), Stop>
+/// Compares the arcs of a state, no two of which share a column, with those that are kept at the end.
+fn check_arcs(
+    alloc: Global,
+    subject: &Subject,
+    state: &StateLine,
+    node: &Node,
+    kept: &[ArcLine],
+) -> Result<(), Stop>
     requires staged { IsRightBeforeStates subject.now }
     requires at { IsStateAt subject.now state.now node.now }
+    requires kept { AreKeptArcs (problem_of subject.now) subject.now.answer.now
+        (last_kind subject.now node.now) kept.now }
     requires targets { IsRightPartOf (problem_of subject.now) subject.now.answer.now
         state.now.node 0 }
     requires mark { IsRightPartOf (problem_of subject.now) subject.now.answer.now state.now.node 1 }
@@ -104,13 +110,12 @@ fn check_arcs(alloc: Global, subject: &Subject, state: &StateLine, node: &Node) 
         (StopsBy
         (IsFirstInState (problem_of subject.now) subject.now.answer.now state.now.node)) }
 {
-    let kept = kept_arcs(alloc, subject, state, node)?;
-    let least = least_differing(alloc, &state.arcs, &kept)?;
+    let least = least_differing(alloc, &state.arcs, kept)?;
     match least {
         None => Ok(()),
         Some(column) => {
             let listed = target_on(&state.arcs, &column);
-            let kept = target_on(&kept, &column);
+            let kept = target_on(kept, &column);
             Err(Stop::Found(Fault::ArcsDiffer {
                 state: state.node,
                 column,
@@ -121,15 +126,18 @@ fn check_arcs(alloc: Global, subject: &Subject, state: &StateLine, node: &Node) 
     }
 }
 
-/// Looks at a state. It stops at its first fault.
+/// Looks at a state, whose arcs are these if nothing is wrong with it. It stops at its first fault.
 pub(crate) fn check_state(
     alloc: Global,
     subject: &Subject,
     state: &StateLine,
     node: &Node,
+    kept: &[ArcLine],
 ) -> Result<(), Stop>
     requires staged { IsRightBeforeStates subject.now }
     requires at { IsStateAt subject.now state.now node.now }
+    requires kept { AreKeptArcs (problem_of subject.now) subject.now.answer.now
+        (last_kind subject.now node.now) kept.now }
     ensures ok { OnOk result
         (IsRightState (problem_of subject.now) subject.now.answer.now state.now.node) }
     ensures err { IfErr result
@@ -139,5 +147,5 @@ pub(crate) fn check_state(
     check_targets(subject, state, node)?;
     check_mark(subject, state, node)?;
     check_once(alloc, subject, state, node)?;
-    check_arcs(alloc, subject, state, node)
+    check_arcs(alloc, subject, state, node, kept)
 }

@@ -1,5 +1,7 @@
 ghost use Rattle.std.specs.Prelude.{IfErr, OnOk};
+ghost use Rattle.violation.specs.Problems.{last_stage};
 ghost use Rattle.cert_check.specs.FirstFaults.{IsFirstFault};
+ghost use Rattle.cert_check.specs.Left.{AreLeftAt};
 ghost use Rattle.cert_check.specs.States.{IsRightFrom, IsRightBeforeStates};
 ghost use Rattle.cert_check.specs.Stops.{StopsBy};
 ghost use Rattle.cert_check.specs.Subjects.{problem_of};
@@ -9,11 +11,18 @@ use crate::find_state::has_state;
 use crate::state_check::check_state;
 use crate::stop::Stop;
 use crate::subject::Subject;
+use answer_text::ArcLine;
 use std::alloc::Global;
 
-/// Looks at the states of the automaton, after all stages. It stops at the first fault.
-pub(crate) fn check_states(alloc: Global, subject: &Subject) -> Result<(), Stop>
-    requires { IsRightBeforeStates subject.now }
+/// Looks at the states of the automaton, after all stages, with what is left of the moves of each node of
+/// the last one. It stops at the first fault.
+pub(crate) fn check_states(
+    alloc: Global,
+    subject: &Subject,
+    left: &[Vec<ArcLine>],
+) -> Result<(), Stop>
+    requires staged { IsRightBeforeStates subject.now }
+    requires left { AreLeftAt subject.now (last_stage (problem_of subject.now)) left.now }
     ensures ok { OnOk result (IsRightFrom (problem_of subject.now) subject.now.answer.now) }
     ensures err { IfErr result
         (StopsBy (IsFirstFault (problem_of subject.now) subject.now.answer.now)) }
@@ -29,7 +38,8 @@ pub(crate) fn check_states(alloc: Global, subject: &Subject) -> Result<(), Stop>
         .nodes
         .as_slice();
     for state in states {
-        check_state(alloc, subject, state, &nodes[state.node as usize])?;
+        let number = state.node as usize;
+        check_state(alloc, subject, state, &nodes[number], &left[number])?;
     }
     Ok(())
 }

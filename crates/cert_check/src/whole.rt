@@ -33,8 +33,8 @@ fn check_all(alloc: Global, grammar: &Grammar, answer: &Answer) -> Result<(), St
         answer,
         shape: &shape,
     };
-    check_stages(alloc, &subject)?;
-    check_states(alloc, &subject)
+    let left = check_stages(alloc, &subject)?;
+    check_states(alloc, &subject, &left)
 }
 
 /// What a checker says of an answer that is within the limits of what is read: No with the fault that

@@ -1,29 +1,25 @@
-use Rattle.violation.proofs.SplitLemmas.{tiers_split}
-use Rattle.cert_check.specs.{Pruned.IsAlikeTo, Subjects.problem_of}
-use Rattle.cert_check.proofs.{KeptSteps.{kept_of_none, kept_of_more, kept_of_all}, PrunedSteps.alike_go_on}
+use Rattle.cert_check.proofs.KeptSteps.{kept_of_none, kept_of_more, kept_of_all}
 use Rattle.cert_check.proofs.kept.kept_of.Goals as goal
 
 pub loop-class-init : goal.loop-class-init
-loop-class-init c = kept_of_none _ _ _ _ c.new-kept.ensures.items
+loop-class-init c = kept_of_none _ _ _ _ _ c.new-kept.ensures.items
 
 pub push_kept-requires-clause-width : goal.push_kept-requires-clause-width
 push_kept-requires-clause-width c =
-    rw c.class-item.is (c.requires.width c.loop-class.class-index c.class-item.result c.loop-class-test.true)
+    rw c.class-item.is (c.requires.pieces.one_width c.loop-class.class-index c.class-item.result c.loop-class-test.true)
 
 pub push_kept-requires-clause-filled : goal.push_kept-requires-clause-filled
 push_kept-requires-clause-filled c =
-    rw c.class-item.is (c.requires.filled c.loop-class.class-index c.class-item.result c.loop-class-test.true)
+    rw c.class-item.is (c.requires.pieces.filled c.loop-class.class-index c.class-item.result c.loop-class-test.true)
 
 pub push_kept-requires-clause-alike : goal.push_kept-requires-clause-alike
 push_kept-requires-clause-alike c =
-    let s = c.args.subject.now in
-    let alike : IsAlikeTo (problem_of s) c.args.stage c.class-item.result =
-    rw c.class-item.is (c.requires.alike c.loop-class.class-index c.class-item.result c.loop-class-test.true) in
-    λ x y hx hy. alike_go_on _ _ (tiers_split s.grammar.now.tiers.kinds.items).free_below x y (alike x y hx hy)
+    rw c.class-item.is (c.requires.alike c.loop-class.class-index c.class-item.result c.loop-class-test.true)
 
 pub loop-class-preserved : goal.loop-class-preserved
 loop-class-preserved c =
-    kept_of_more _ _ _ _ _ _ c.loop-class-test.true c.class-item.is _ _ c.loop-class.invariant c.in_ok-push_kept.ensures
+    kept_of_more _ _ _ _ _ _ _ c.loop-class-test.true c.class-item.is _ _ c.loop-class.invariant
+    c.in_ok-push_kept.ensures
 
 pub returns : goal.returns
-returns c = kept_of_all _ _ _ _ _ _ c.loop-class-test.false c.loop-class.invariant
+returns c = kept_of_all _ _ _ _ _ _ _ c.loop-class-test.false c.loop-class.invariant

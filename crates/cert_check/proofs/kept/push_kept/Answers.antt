@@ -11,5 +11,5 @@ returns c =
     let k = kind_of_bits (problem_of s) c.args.stage c.args.kind.now in
     let held : IsTrue (has c.args.class.now c.syms-column.result.now) =
     rw c.syms-column.ensures.value (c.least_column-least.ensures.held c.requires.filled) in
-    adds_kept _ _ k _ _ _ _ _ c.requires.alike held c.in_ok-push.ensures.items refl c.next_kind-target.ensures
+    adds_kept _ _ _ k _ _ _ _ _ c.requires.alike held c.in_ok-push.ensures.items refl c.target_of-target.ensures
     (sym c.cost-cost.ensures.cost) c.cost-cost.ensures.few

@@ -1,16 +1,15 @@
 -- The arcs that are left of a node's moves after the last stage are those that its state has if nothing is
 -- wrong with it.
 use Rattle.std.proofs.Common.{◌≡◌, ℕ, ◌+◌, ◌≤◌, IsTrue, List, [], ◌∷◌, length, slice_get, Some, None, Option, refl, sym, ap, ◌∙◌}
-use Rattle.std.proofs.Common.{arith, get_or, ◌<◌, All, Contains}
+use Rattle.std.proofs.Common.{arith, get_or, ◌<◌, Contains}
 use Rattle.std.proofs.{lemmas.List.Elements.All-contains, lemmas.List.Folds.list_any_at}
 use Rattle.std.proofs.lemmas.Option.{slice_get_within, slice_get-map, slice_get-get_or, get_or_from_slice_get}
 use Rattle.std.specs.{Global.Vec, List.Sorted.IsStrictlySortedBy, Prelude.option_map}
 use Rattle.tier_core.specs.{declared.sym.Sym.Sym, Classes.{has, sets_of}, Kinds.{PrefixKind, kind_order}}
-use Rattle.symbol_class.specs.Held.{some_has}
 use Rattle.violation.specs.{Prefixes.kind_of_bits, Problems.{Problem, last_stage}}
 use Rattle.answer_text.specs.{declared.automaton.ArcLine.ArcLine, declared.automaton.StateLine.StateLine}
 use Rattle.answer_text.specs.{declared.stage.Node.Node, Certified.IsKeptBelow}
-use Rattle.answer_text.specs.{Right.{nodes_at, kinds_at, IsNodeOf}, ArcClasses.arc_classes}
+use Rattle.answer_text.specs.{Right.{kinds_at, IsNodeOf}, ArcClasses.arc_classes}
 use Rattle.check_laws.proofs.Listing.{one_number}
 use Rattle.tier_core.proofs.Members.{All-from_members, contains_map}
 use Rattle.cert_check.specs.{declared.subject.Subject.Subject, Faults.{IsListedTarget, IsKeptTarget}}

@@ -3,10 +3,10 @@ use Rattle.std.proofs.Common.{◌≡◌, ◌↔◌, ℕ, zero, suc, ◌+◌, ◌
 use Rattle.std.proofs.Common.{length, get_or, slice_get, Some, refl, sym, ap, ◌∙◌, subst, arith, inl, inr, ⊎_elim, All, ◌⊎◌, length-append}
 use Rattle.std.proofs.{lemmas.Bool.{cases_lt, ne_eqb}, lemmas.List.{get_or_default, length-map, map-append}}
 use Rattle.std.proofs.lemmas.List.Elements.{All-from_recursion, All-push}
-use Rattle.std.proofs.lemmas.Option.{slice_get_within, slice_get-get_or, get_or_from_slice_get}
+use Rattle.std.proofs.lemmas.Option.{slice_get_within, get_or_from_slice_get}
 use Rattle.std.specs.Global.{Vec}
-use Rattle.tier_core.specs.{declared.class.Class.Class, declared.sym.Sym.Sym, Classes.{sets_of, has}}
-use Rattle.tier_core.specs.{Kinds.PrefixKind, Filled.is_filled, FirstColumn.first_column}
+use Rattle.tier_core.specs.{declared.sym.Sym.Sym, Classes.{sets_of, has}}
+use Rattle.tier_core.specs.{Kinds.PrefixKind, FirstColumn.first_column}
 use Rattle.tier_core.proofs.Filled.{has-first_column}
 use Rattle.violation.specs.{Moves.{next_kind, cost_of, cut_kind}, Prefixes.kind_of_bits, Problems.{Problem, last_stage}}
 use Rattle.answer_text.specs.{declared.automaton.ArcLine.ArcLine, declared.stage.Node.Node, declared.stage.Stage.Stage}
@@ -20,7 +20,7 @@ use Rattle.cert_check.specs.Left.{AddsLeft, AreLeft, AreLeftAt, AreLeftOfFirst, 
 use Rattle.cert_check.specs.{Places.column_place, Subjects.{IsReady, AscendsAt, problem_of, stage_kinds, stage_nodes}}
 use Rattle.cert_check.proofs.ChosenClasses.{ChosenOf, chosen_of_none, chosen_of_same, chosen_of_more, chosen_of_all}
 use Rattle.cert_check.proofs.Faultless.{node_kind as kind_of_node, some_same}
-use Rattle.cert_check.proofs.{NodeSteps.{IsPieceAt, leads_to, node_below, not_closed}, Subjects.{cut_told, readable_stage}, TightSteps.{lists_there, tight_by}}
+use Rattle.cert_check.proofs.{NodeSteps.{IsPieceAt, node_below, not_closed}, Subjects.{cut_told, readable_stage}, TightSteps.{lists_there, tight_by}}
 
 -- ---- one move
 

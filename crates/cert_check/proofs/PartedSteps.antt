@@ -1,20 +1,21 @@
 -- The columns of a kind at a stage: at stage 0 those that fit it, and later what is left of the moves of its
 -- cut, parted by the tests of the stage.
-use Rattle.std.proofs.Common.{◌≡◌, ◌↔◌, ℕ, zero, suc, ◌+◌, ◌-◌, ◌<◌, ◌≤◌, IsTrue, List, [], ◌∷◌, length, take, get_or}
-use Rattle.std.proofs.Common.{slice_get, Some, refl, sym, ap, ◌∙◌, subst, arith, Contains}
-use Rattle.std.proofs.{lemmas.List.take-take, lemmas.List.Elements.All-contains, lemmas.Option.{slice_get-get_or, slice_get_within, get_or_from_slice_get}}
+use Rattle.std.proofs.Common.{◌≡◌, ◌↔◌, ℕ, zero, suc, ◌+◌, ◌-◌, ◌<◌, ◌≤◌, IsTrue, List, [], ◌∷◌, length, get_or}
+use Rattle.std.proofs.Common.{slice_get, Some, refl, sym, ap, ◌∙◌, subst, arith, All, Contains}
+use Rattle.std.proofs.{lemmas.List.{get_or-map, length-map, take-take}, lemmas.Option.{slice_get-get_or, slice_get_within, get_or_from_slice_get}}
 use Rattle.std.specs.{Global.Vec, List.AllByRecursion}
 use Rattle.tier_core.specs.{declared.class.Class.Class, declared.constraint.Constraint.Constraint}
 use Rattle.tier_core.specs.declared.kind.Kind.{Kind}
-use Rattle.tier_core.specs.{declared.sym.Sym.Sym, Classes.{sets_of, has}, Kinds.{Phase, PrefixKind}}
-use Rattle.tier_core.proofs.{ClassLemmas.same_width, Members.contains_of_map}
+use Rattle.tier_core.specs.{declared.sym.Sym.Sym, Classes.{sets_of, has}, Filled.is_filled, Kinds.{Phase, PrefixKind}}
+use Rattle.tier_core.proofs.{ClassLemmas.same_width}
+use Rattle.symbol_class.specs.Held.{some_has}
 use Rattle.violation.specs.{Moves.{next_kind, cost_of, cut_kind}, Prefixes.kind_of_bits, Problems.Problem}
 use Rattle.violation.proofs.CutLemmas.{fits-cut}
 use Rattle.answer_text.specs.{declared.automaton.ArcLine.ArcLine, declared.stage.Stage.Stage, ArcClasses.arc_classes}
 use Rattle.answer_text.specs.Certified.{IsKeptBelow, IsTightAt, Lists}
-use Rattle.cert_check.specs.Alike.{AreAlikeFor}
-use Rattle.cert_check.specs.{Fitting.{AreFitting, ArePartedByTests, IsReadAlike, OpenAlike}, Tests.AddsTests}
-use Rattle.cert_check.specs.Left.{AreClassesBefore, AreLeft, AreLeftAt, ArePartedAt, AreTestsAt, IsLeadingArc}
+use Rattle.cert_check.specs.{Alike.AreAlikeFor, Pieces.IsUniform}
+use Rattle.cert_check.specs.{Fitting.{AreFitting, ArePartedByTests, IsReadAlike, OpenAlike}, Tests.{AddsTests, AgreeOn}}
+use Rattle.cert_check.specs.Left.{AreFirstParts, AreLeft, AreLeftAt, AreTestsAt, IsLeadingArc, IsMovingAlike}
 use Rattle.cert_check.specs.{declared.subject.Subject.Subject, Left.MoveAlike, Subjects.{problem_of, stage_kinds}}
 use Rattle.cert_check.proofs.{Faultless.some_same, GoAlike.{first_moves, next_moves}, TightSteps.stretches_rise}
 use Rattle.cert_check.proofs.UniformSteps.{of_listed}
@@ -42,18 +43,14 @@ tests_next problem (suc r) width x tests some within is same t =
 
 -- ---- stage 0
 
-pub parted_first : (problem : Problem) (stages : List Stage) (k : PrefixKind) (width : ℕ)
-    (tests fitting parts : List Class) → AllByRecursion (λ t. t < problem.tiers.width) problem.tiers.free
+pub parted_first : (problem : Problem) (k : PrefixKind) (width : ℕ) (tests fitting parts : List Class) → AllByRecursion (λ t. t < problem.tiers.width) problem.tiers.free
     → width ≡ problem.tiers.width → AreFitting problem k fitting → AreTestsAt problem 0 tests
-    → ArePartedByTests width tests fitting parts → ArePartedAt problem stages 0 k parts
-parted_first problem stages k width tests fitting parts below same f t p = record {
+    → ArePartedByTests width tests fitting parts → AreFirstParts problem k parts
+parted_first problem k width tests fitting parts below same f t p = record {
   pieces = rw same at p.pieces;
   columns = λ column. (
-    λ h. record {
-      fits = (f.columns column).0 (sym (p.columns column) ∙ h);
-      tight = λ j one less. absurd (omega arith);
-    },
-    λ b. p.columns column ∙ (f.columns column).1 b.fits,
+    λ h. (f.columns column).0 (sym (p.columns column) ∙ h),
+    λ b. p.columns column ∙ (f.columns column).1 b,
   );
   alike = λ n d inside c e hc he.
       let wide = p.pieces.one_width n d inside ∙ same in
@@ -104,64 +101,93 @@ module _ (problem : Problem) (stages : List Stage) (r : ℕ) (k : PrefixKind) (c
 
 -- ---- a later stage
 
-pub parted_next : (problem : Problem) (stages : List Stage) (r : ℕ) (k : PrefixKind) (x : Constraint) (width : ℕ)
-    (tests : List Class) (arcs : List ArcLine) (parts : List Class) → r < length problem.constraints
-    → x ≡ get_or problem.constraints r x → width ≡ problem.tiers.width
-    → AreLeft problem stages r (cut_kind problem r k) arcs → AreTestsAt problem (suc r) tests
-    → ArePartedByTests width tests (arc_classes arcs) parts → ArePartedAt problem stages (suc r) k parts
-parted_next problem stages r k x width tests arcs parts within is same left t p = record {
-  pieces = rw same at p.pieces;
-  columns = λ column. (
-    λ h. kept_uncut problem stages r k column ((left.columns column).0 (sym (p.columns column) ∙ h)),
-    λ b. p.columns column ∙ (left.columns column).1 (kept_cut problem stages r k column b),
-  );
-  alike = λ n d inside c e hc he.
-      let wide = p.pieces.one_width n d inside ∙ same in
-      let whole = p.within n d inside in
-      of_whole c e whole.whole whole.listed (whole.within c hc) (whole.within e he)
-      (t.told c e (same_width _ c hc ∙ wide) (same_width _ e he ∙ wide)
-      (rw t.new_is at (p.uniform n d inside c e hc he)) x numbered);
-}
-  where
-    numbered : slice_get problem.constraints r ≡ Some x
-    numbered = slice_get-get_or _ r x within ∙ ap (λ (y : Constraint). Some y) (sym is)
-
-    of_whole : (c e : List Sym) (whole : Class) → Contains (arc_classes arcs) whole → IsTrue (has whole c)
-        → IsTrue (has whole e) → AreAlikeFor x c e → MoveAlike problem (suc r) k c e
-    of_whole c e whole listed hc he alike =
-        let arc = contains_of_map (λ (arc : ArcLine). arc.class) arcs whole listed in
-        let leads = All-contains (IsLeadingArc problem stages r (cut_kind problem r k)) arcs arc.0 left.leads arc.1.0 in
-        next_moves problem k c e r x within is
-        (some_same (sym (leads c (ap (λ y. has y c) arc.1.1 ∙ hc)) ∙ leads e (ap (λ y. has y e) arc.1.1 ∙ he))) alike
-
 -- there is an element at each number that is below the length
 element_at : {X : Type 0} (xs : List X) (n : ℕ) → n < length xs → (x : X) × (x ≡ get_or xs n x)
 element_at [] n l = absurd (omega (arith, l))
 element_at (x ∷ xs) zero l = (x, refl)
 element_at (x ∷ xs) (suc n) l = element_at xs n (omega (arith, l))
 
--- the same by the number of a stage
-pub parted_later : (problem : Problem) (stages : List Stage) (stage : ℕ) (k : PrefixKind) (width : ℕ)
-    (tests : List Class) (arcs : List ArcLine) (parts : List Class) → 1 ≤ stage → stage ≤ length problem.constraints
-    → width ≡ problem.tiers.width → AreLeft problem stages (stage - 1) (cut_kind problem (stage - 1) k) arcs
-    → AreTestsAt problem stage tests → ArePartedByTests width tests (arc_classes arcs) parts
-    → ArePartedAt problem stages stage k parts
-parted_later problem stages zero k width tests arcs parts some within same left t p = absurd (omega (arith, some))
-parted_later problem stages (suc r) k width tests arcs parts some within same left t p =
+-- a list of one element has no other
+only_one : {X : Type 0} (x y : X) → Contains (x ∷ []) y → y ≡ x
+only_one x y h = let none : h.0 ≡ 0 = omega (arith, h.1) in sym h.2 ∙ ap (λ n. get_or (x ∷ []) n y) none
+
+-- columns of an arc of the stage before that the tests of a stage do not tell apart move alike
+pub arc_alike : (problem : Problem) (stages : List Stage) (stage : ℕ) (k : PrefixKind) (tests : List Class)
+    (arc : ArcLine) → 1 ≤ stage → stage ≤ length problem.constraints → AreTestsAt problem stage tests
+    → IsLeadingArc problem stages (stage - 1) (cut_kind problem (stage - 1) k) arc → (c d : List Sym)
+    → IsTrue (has arc.class c) → IsTrue (has arc.class d) → length c ≡ problem.tiers.width
+    → length d ≡ problem.tiers.width → AgreeOn tests c d → MoveAlike problem stage k c d
+arc_alike problem stages zero k tests arc some within t leads c d hc hd lc ld agree = absurd (omega (arith, some))
+arc_alike problem stages (suc r) k tests arc some within t leads c d hc hd lc ld agree =
     let x = element_at problem.constraints r (omega (arith, within)) in
-    parted_next problem stages r k x.0 width tests arcs parts (omega (arith, within)) x.1 same
-    (subst (λ n. AreLeft problem stages n (cut_kind problem n k) arcs) (omega arith) left) t p
+    let numbered : slice_get problem.constraints r ≡ Some x.0 =
+    slice_get-get_or _ r x.0 (omega (arith, within)) ∙ ap (λ (y : Constraint). Some y) (sym x.1) in
+    let to : IsLeadingArc problem stages r (cut_kind problem r k) arc =
+    subst (λ n. IsLeadingArc problem stages n (cut_kind problem n k) arc) (omega arith) leads in
+    next_moves problem k c d r x.0 (omega (arith, within)) x.1 (some_same (sym (to c hc) ∙ to d hd))
+    (t.told c d lc ld (rw t.new_is at agree) x.0 numbered)
+
+-- the same of a class that lies in the arc
+pub part_alike : (problem : Problem) (stages : List Stage) (stage : ℕ) (k : PrefixKind) (tests : List Class)
+    (arc : ArcLine) (part : Class) → 1 ≤ stage → stage ≤ length problem.constraints → AreTestsAt problem stage tests
+    → IsLeadingArc problem stages (stage - 1) (cut_kind problem (stage - 1) k) arc
+    → ((column : List Sym) → IsTrue (has part column) → IsTrue (has arc.class column))
+    → length (sets_of part) ≡ problem.tiers.width → IsUniform tests part → IsMovingAlike problem stage k part
+part_alike problem stages stage k tests arc part some within t leads inside wide uniform c d hc hd =
+    arc_alike problem stages stage k tests arc some within t leads c d (inside c hc) (inside d hd)
+    (same_width _ c hc ∙ wide) (same_width _ d hd ∙ wide) (uniform c d hc hd)
+
+-- what is left of the moves of the cut is what is kept at the next stage
+pub left_kept : (problem : Problem) (stages : List Stage) (stage : ℕ) (k : PrefixKind) (arcs : List ArcLine)
+    → 1 ≤ stage → AreLeft problem stages (stage - 1) (cut_kind problem (stage - 1) k) arcs → (column : List Sym)
+    → IsTrue (some_has (arc_classes arcs) column) ↔ IsKeptBelow problem stages stage k column
+left_kept problem stages zero k arcs some left column = absurd (omega (arith, some))
+left_kept problem stages (suc r) k arcs some left column =
+    let here : AreLeft problem stages r (cut_kind problem r k) arcs =
+    subst (λ n. AreLeft problem stages n (cut_kind problem n k) arcs) (omega arith) left in (
+      λ h. kept_uncut problem stages r k column ((here.columns column).0 h),
+      λ b. (here.columns column).1 (kept_cut problem stages r k column b),
+    )
+
+-- the same of each of its parts
+pub parts_alike : (problem : Problem) (stages : List Stage) (stage : ℕ) (k : PrefixKind) (tests : List Class)
+    (arc : ArcLine) (parts : List Class) (width : ℕ) → 1 ≤ stage → stage ≤ length problem.constraints
+    → AreTestsAt problem stage tests → IsLeadingArc problem stages (stage - 1) (cut_kind problem (stage - 1) k) arc
+    → width ≡ problem.tiers.width → ArePartedByTests width tests (arc.class ∷ []) parts
+    → All (IsMovingAlike problem stage k) parts
+parts_alike problem stages stage k tests arc parts width some within t leads same p n d inside =
+    let whole = p.within n d inside in
+    part_alike problem stages stage k tests arc (get_or parts n d) some within t leads
+    (λ column h. subst (λ (w : Class). IsTrue (has w column)) (only_one arc.class whole.whole whole.listed)
+    (whole.within column h)) (p.pieces.one_width n d inside ∙ same) (p.uniform n d inside)
+
+-- the tests of a stage have the width of a class of the problem
+pub tests_wide : (problem : Problem) (stage : ℕ) (tests : List Class) (class : Class) → AreTestsAt problem stage tests
+    → length (sets_of class) ≡ problem.tiers.width
+    → All (λ test. length (sets_of test) ≡ length (sets_of class)) tests
+tests_wide problem stage tests class t wide = rw wide (rw t.new_is t.one_width)
+
+-- an arc that is left is of the problem's width and not empty, and leads where the moves lead
+pub arc_class_at : (problem : Problem) (stages : List Stage) (r : ℕ) (k : PrefixKind) (arcs : List ArcLine)
+    → AreLeft problem stages r k arcs → (n : ℕ) (arc : ArcLine) → n < length arcs → arc ≡ get_or arcs n arc
+    → (length (sets_of arc.class) ≡ problem.tiers.width)
+    × (IsTrue (is_filled arc.class) × IsLeadingArc problem stages r k arc)
+arc_class_at problem stages r k arcs left n arc inside is =
+    let within : n < length (arc_classes arcs) =
+    omega (arith, inside, length-map arcs (λ (x : ArcLine). x.class)) in
+    let class =
+    ap (λ (x : ArcLine). x.class) is ∙ sym (get_or-map (λ (x : ArcLine). x.class) arcs n arc arc.class inside) in (
+      ap (λ c. length (sets_of c)) class ∙ left.pieces.one_width n arc.class within,
+      (rw class (left.pieces.filled n arc.class within), rw is (left.leads n arc inside)),
+    )
 
 -- the list of a number is what is left of the moves of the kind there
 pub left_at : (s : Subject) (stage : ℕ) (kind : Kind) (lists : List (Vec ArcLine)) (n : ℕ) (k : PrefixKind)
-    (arcs : Vec ArcLine) (classes : List Class) → slice_get (stage_kinds s (stage - 1)) n ≡ Some k
+    (arcs : Vec ArcLine) (found : List ArcLine) → slice_get (stage_kinds s (stage - 1)) n ≡ Some k
     → k ≡ cut_kind (problem_of s) (stage - 1) (kind_of_bits (problem_of s) stage kind)
-    → AreLeftAt s (stage - 1) lists → arcs ≡ get_or lists n arcs → classes ≡ arc_classes arcs.items
-    → AreClassesBefore s stage kind classes
-left_at s stage kind lists n k arcs classes e cut left is same = record {
-  arcs = arcs.items;
-  same = same;
-  left = rw cut at (left.each n k arcs e
-      (slice_get-get_or lists n arcs (omega (arith, slice_get_within _ n k e, left.number))
-      ∙ ap (λ (x : Vec ArcLine). Some x) (sym is)));
-}
+    → AreLeftAt s (stage - 1) lists → arcs ≡ get_or lists n arcs → found ≡ arcs.items
+    → AreLeft (problem_of s) s.answer.now.stages.items (stage - 1)
+    (cut_kind (problem_of s) (stage - 1) (kind_of_bits (problem_of s) stage kind)) found
+left_at s stage kind lists n k arcs found e cut left is same = rw same (rw cut at (left.each n k arcs e
+    (slice_get-get_or lists n arcs (omega (arith, slice_get_within _ n k e, left.number))
+    ∙ ap (λ (x : Vec ArcLine). Some x) (sym is))))

@@ -1,5 +1,5 @@
 -- Pieces that are parted by one test after the other.
-use Rattle.std.proofs.Common.{◌≡◌, ℕ, ◌+◌, ◌<◌, List, [], length, take, get_or, refl, sym, ◌∙◌, subst, All}
+use Rattle.std.proofs.Common.{◌≡◌, ℕ, ◌+◌, ◌<◌, Bool, IsTrue, List, [], length, take, get_or, refl, sym, ◌∙◌, subst, All}
 use Rattle.std.proofs.{Common.Contains, lemmas.List.Elements.{All-from_recursion, All-more, Contains-get_or}}
 use Rattle.tier_core.specs.{declared.class.Class.Class, declared.sym.Sym.Sym, Classes.has}
 use Rattle.symbol_class.specs.{declared.difference.Difference.Difference, Held.ArePieces}
@@ -42,3 +42,18 @@ parted_more width tests n test wholes parts new w difference l is same told a b 
       All-more (λ (t : Class). has t x ≡ has t y) tests n test l so_far
       (subst (λ (t : Class). has t x ≡ has t y) is (sym (told x) ∙ b.alike k d inside x y hx hy ∙ told y));
 }
+
+-- a difference that is a class decides alike on the columns of another
+pub decided_by : (class test : Class) (difference : Difference) (b : Bool)
+    → ((column : List Sym) → differs difference column ≡ has test column)
+    → ((column : List Sym) → IsTrue (has class column) → differs difference column ≡ b) → (c d : List Sym)
+    → IsTrue (has class c) → IsTrue (has class d) → has test c ≡ has test d
+decided_by class test difference b told same c d hc hd = sym (told c) ∙ same c hc ∙ sym (same d hd) ∙ told d
+
+-- one more test holds all columns of a class or none
+pub uniform_more : (class test : Class) (tests : List Class) (n : ℕ) → n < length tests → test ≡ get_or tests n test
+    → ((c d : List Sym) → IsTrue (has class c) → IsTrue (has class d) → has test c ≡ has test d)
+    → IsUniform (take n tests) class → IsUniform (take (n + 1) tests) class
+uniform_more class test tests n l is same so_far x y hx hy =
+    All-more (λ (t : Class). has t x ≡ has t y) tests n test l (so_far x y hx hy)
+    (subst (λ (t : Class). has t x ≡ has t y) is (same x y hx hy))

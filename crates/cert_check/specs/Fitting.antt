@@ -1,8 +1,7 @@
 -- The columns that fit a kind, in pieces; and pieces that tests part.
-use Rattle.std.specs.Prelude.{ℕ, ◌≡◌, ◌<◌, ◌≤◌, ◌↔◌, IsTrue, List, All}
+use Rattle.std.specs.Prelude.{ℕ, ◌≡◌, ◌<◌, ◌↔◌, IsTrue, List, All}
 use Rattle.tier_core.specs.declared.sym.Sym.{Sym}
 use Rattle.tier_core.specs.declared.class.Class.{Class}
-use Rattle.tier_core.specs.Classes.{has}
 use Rattle.tier_core.specs.Kinds.{PrefixKind}
 use Rattle.tier_core.specs.Scan.{opens}
 use Rattle.tier_core.specs.Timelines.{symbol, has_edge}

@@ -1,16 +1,13 @@
 -- The moves of a kind that are kept, by pieces: columns that lead to one kind and cost the same.
-use Rattle.std.specs.Prelude.{ℕ, ◌≡◌, ◌≤◌, ◌+◌, ◌↔◌, IsTrue, List, [], ◌∷◌, ◌++◌, map, All, Contains, Some, length, slice_get}
-use Rattle.std.specs.Global.{Vec}
+use Rattle.std.specs.Prelude.{ℕ, ◌≡◌, ◌≤◌, ◌↔◌, IsTrue, List, map, All, Contains, Some, slice_get}
 use Rattle.tier_core.specs.declared.sym.Sym.{Sym}
 use Rattle.tier_core.specs.declared.class.Class.{Class}
 use Rattle.tier_core.specs.Classes.{has}
 use Rattle.tier_core.specs.Kinds.{PrefixKind}
-use Rattle.symbol_class.specs.Held.{some_has, ArePieces}
+use Rattle.symbol_class.specs.Held.{some_has, AddsClasses, ArePieces}
 use Rattle.violation.specs.Moves.{next_kind, cost_of}
 use Rattle.violation.specs.Problems.{Problem}
-use Rattle.answer_text.specs.declared.automaton.ArcLine.{ArcLine}
 use Rattle.answer_text.specs.declared.stage.Stage.{Stage}
-use Rattle.answer_text.specs.ArcClasses.{arc_classes}
 use Rattle.answer_text.specs.Certified.{IsKeptBelow}
 use Rattle.answer_text.specs.Right.{nodes_at, kinds_at}
 use Rattle.cert_check.specs.declared.kept_piece.KeptPiece.{KeptPiece}
@@ -42,19 +39,12 @@ pub record IsKeptPiece (problem : Problem) (stages : List Stage) (stage : ℕ) (
   pub costs : (column : List Sym) → IsTrue (has piece.class column) → cost_of problem stage k column ≡ piece.cost
   pub few : piece.cost ≤ 1
 
--- A class is put at the end of a list as a piece.
-pub record AddsKept (problem : Problem) (stages : List Stage) (stage : ℕ) (k : PrefixKind) (class : Class)
-    (old new : List KeptPiece) : Type 0 where
-  pub piece : KeptPiece
-  pub new_is : new ≡ old ++ piece ∷ []
-  pub same_class : piece.class ≡ class
-  pub is : IsKeptPiece problem stages stage k piece
-
--- Pieces have these classes, one after the other.
-pub record AreKeptOf (problem : Problem) (stages : List Stage) (stage : ℕ) (k : PrefixKind) (classes : List Class)
-    (kept : List KeptPiece) : Type 0 where
-  pub same_classes : kept_classes kept ≡ classes
-  pub each : All (IsKeptPiece problem stages stage k) kept
+-- Pieces of the kept moves of a kind are put at the end of a list, none of them empty, and this many of
+-- them hold each column.
+pub record AddsPieces (problem : Problem) (stages : List Stage) (stage : ℕ) (k : PrefixKind) (old new : List KeptPiece)
+    (times : List Sym → ℕ) : Type 0 where
+  pub classes : AddsClasses problem.tiers.width (kept_classes old) (kept_classes new) times
+  pub each : All (IsKeptPiece problem stages stage k) old → All (IsKeptPiece problem stages stage k) new
 
 -- Pieces hold exactly the columns on which the move of a kind of a stage is kept there, each in one piece.
 pub record AreKeptPieces (problem : Problem) (stages : List Stage) (stage : ℕ) (k : PrefixKind)

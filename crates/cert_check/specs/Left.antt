@@ -8,7 +8,7 @@ use Rattle.tier_core.specs.declared.kind.Kind.{Kind}
 use Rattle.tier_core.specs.Classes.{has}
 use Rattle.tier_core.specs.Kinds.{PrefixKind}
 use Rattle.symbol_class.specs.Held.{some_has, ArePieces}
-use Rattle.violation.specs.Moves.{cut_kind, next_kind, cost_of}
+use Rattle.violation.specs.Moves.{FitsKind, cut_kind, next_kind, cost_of}
 use Rattle.violation.specs.Prefixes.{kind_of_bits}
 use Rattle.violation.specs.Problems.{Problem}
 use Rattle.answer_text.specs.declared.automaton.ArcLine.{ArcLine}
@@ -34,13 +34,12 @@ abbrev pub IsMovingAlike : Problem → ℕ → PrefixKind → Class → Type 0
 IsMovingAlike problem stage k class = (c d : List Sym) → IsTrue (has class c) → IsTrue (has class d)
     → MoveAlike problem stage k c d
 
--- Classes hold exactly the columns on which the move of a kind of a stage is kept there, no column is in
--- two, and the moves on all columns of each are alike.
-pub record ArePartedAt (problem : Problem) (stages : List Stage) (stage : ℕ) (k : PrefixKind)
-    (classes : List Class) : Type 0 where
+-- Classes hold exactly the columns that fit a kind of stage 0, no column is in two, and the moves on all
+-- columns of each are alike.
+pub record AreFirstParts (problem : Problem) (k : PrefixKind) (classes : List Class) : Type 0 where
   pub pieces : ArePieces problem.tiers.width classes
-  pub columns : (column : List Sym) → IsTrue (some_has classes column) ↔ IsKeptBelow problem stages stage k column
-  pub alike : All (IsMovingAlike problem stage k) classes
+  pub columns : (column : List Sym) → IsTrue (some_has classes column) ↔ FitsKind problem k column
+  pub alike : All (IsMovingAlike problem 0 k) classes
 
 -- what the tests of a stage tell: at stage 0 which tiers are open after a column, and later all that its
 -- last constraint asks of a column
@@ -105,10 +104,3 @@ pub record IsAfter (s : Subject) (stage : ℕ) (kind : Kind) (lists : List (Vec 
   pub cut : Contains (stage_kinds s (stage - 1))
       (cut_kind (problem_of s) (stage - 1) (kind_of_bits (problem_of s) stage kind))
   pub left : AreLeftAt s (stage - 1) lists
-
--- Classes are those of what is left of the moves of a kind's cut after the stage before.
-pub record AreClassesBefore (s : Subject) (stage : ℕ) (kind : Kind) (classes : List Class) : Type 0 where
-  pub arcs : List ArcLine
-  pub same : classes ≡ arc_classes arcs
-  pub left : AreLeft (problem_of s) s.answer.now.stages.items (stage - 1)
-      (cut_kind (problem_of s) (stage - 1) (kind_of_bits (problem_of s) stage kind)) arcs

@@ -1,12 +1,16 @@
 -- Which tiers are open at a kind, tier by tier.
-use Rattle.std.specs.Prelude.{ℕ, zero, suc, ◌-◌, ◌≡◌, ◌<◌, Bool, false, if◌then◌else◌, List, length, filter, take}
+use Rattle.std.specs.Prelude.{ℕ, zero, suc, ◌-◌, ◌≡◌, ◌<◌, ◌≤◌, Bool, false, if◌then◌else◌, List, length, filter, take}
 use Rattle.tier_core.specs.declared.kind.Kind.{Kind}
 use Rattle.tier_core.specs.declared.sym.Sym.{Sym}
 use Rattle.tier_core.specs.declared.tier.TierKind.{TierKind}
+use Rattle.tier_core.specs.KindShapes.{FitsShape}
 use Rattle.tier_core.specs.Scan.{opens}
 use Rattle.tier_core.specs.Timelines.{symbol, column_at}
 use Rattle.tier_core.specs.Tiers.{is_input, kind_at, has_tier}
+use Rattle.violation.specs.Problems.{last_place}
+use Rattle.cert_check.specs.declared.source.Source.{Source}
 use Rattle.cert_check.specs.declared.subject.Subject.{Subject}
+use Rattle.cert_check.specs.Subjects.{problem_of}
 
 -- whether an input tier is open at a place of a form: its symbol in the column before opens it
 abbrev pub is_open_before : List (List Sym) → ℕ → ℕ → Bool
@@ -27,3 +31,9 @@ is_open_by kinds u place opened tier =
 abbrev pub IsOpenAt : Subject → Kind → ℕ → Type 0
 IsOpenAt s kind mask = (t : ℕ) → t < length s.grammar.now.tiers.kinds.items
     → has_tier mask t ≡ is_open_by s.grammar.now.tiers.kinds.items s.answer.now.form kind.place kind.opened t
+
+-- The kind fits the stage, its place is in the form, and these tiers are open at it.
+pub record IsSource (s : Subject) (stage : ℕ) (source : Source) : Type 0 where
+  pub fits : FitsShape s.shape.now stage source.kind
+  pub place : source.kind.place ≤ last_place (problem_of s)
+  pub opened : IsOpenAt s source.kind source.mask

@@ -9,10 +9,11 @@
 //! a stage's nodes (`order`), its start (`start`), the potential and the moves of each node
 //! (`node_check`), the start's potential (`stage_check`), and all stages (`stages`); of a state the
 //! targets of its arcs, its mark, the columns that are in two arcs, and its arcs (`state_check`), and all
-//! states (`states`). Moves are looked at by classes: the columns that fit a kind, in pieces after which
-//! the same tiers are open (`node_pieces`), are parted by one constraint after the other, and after each
-//! only those are left whose moves are tight (`pruned`). What is left is kept (`kept`). `check` answers
-//! with a verdict.
+//! states (`states`). Moves are looked at by classes. At stage 0 the columns that fit a kind are parted by
+//! the tiers that are open after them (`parted`); later what is left of the moves of the stage before is
+//! parted by the last constraint alone (`kept`), by tests that are made once for a stage (`ground`). After
+//! a stage those moves are left that are tight there (`left`), and what is left after the last one are the
+//! arcs that a state must have. `check` answers with a verdict.
 #![tactic(auto)]
 
 mod alike;
@@ -27,6 +28,7 @@ mod find;
 mod find_state;
 mod fit_boxes;
 mod fitting;
+mod ground;
 mod head;
 mod kept;
 mod kept_piece;
@@ -42,6 +44,7 @@ mod parted;
 mod parting;
 mod possible;
 mod potentials;
+mod source;
 mod stage_check;
 mod stages;
 mod start;

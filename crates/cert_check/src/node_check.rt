@@ -17,6 +17,7 @@ ghost use Rattle.cert_check.specs.Subjects.{IsReady, AscendsAt, problem_of};
 
 use crate::fault::Fault;
 use crate::final_kind::is_final;
+use crate::ground::Ground;
 use crate::kept::kept_pieces;
 use crate::kept_piece::{KeptPiece, MoveTarget};
 use crate::left::arcs_left;
@@ -184,7 +185,7 @@ pub(crate) fn check_node(
     stage: u32,
     number: u32,
     node: &Node,
-    tests: &[Class],
+    ground: &Ground,
     before: &[Vec<ArcLine>],
 ) -> Result<Vec<ArcLine>, Stop>
     requires ready { IsReady subject.now }
@@ -192,7 +193,7 @@ pub(crate) fn check_node(
     requires ascends { AscendsAt subject.now stage }
     requires is { HasNode subject.now.answer.now stage number node.now }
     requires place { node.now.kind.place ≤ last_place (problem_of subject.now) }
-    requires tests { AreTestsAt (problem_of subject.now) stage tests.now }
+    requires tests { AreTestsAt (problem_of subject.now) stage ground.now.tests.items }
     requires before { 1 ≤ stage → IsAfter subject.now stage node.now.kind before.now }
     ensures ok { OnOk result
         (IsRightNode (problem_of subject.now) subject.now.answer.now stage number) }
@@ -203,7 +204,7 @@ pub(crate) fn check_node(
         (StopsBy (IsFirstInNode (problem_of subject.now) subject.now.answer.now stage number)) }
 {
     check_final(subject, stage, number, node)?;
-    let pieces = kept_pieces(alloc, subject, stage, &node.kind, tests, before)?;
+    let pieces = kept_pieces(alloc, subject, stage, &node.kind, ground, before)?;
     check_pieces(alloc, subject, stage, number, node, &pieces)?;
     let arcs = arcs_left(alloc, subject, stage, number, node, &pieces)?;
     Ok(arcs)

@@ -9,9 +9,9 @@ ghost use Rattle.cert_check.specs.Stops.{StopsBy};
 ghost use Rattle.cert_check.specs.Subjects.{IsReady, AreFirstNodesInOrder, AscendsAt, stage_kinds, stage_nodes, problem_of};
 
 use crate::fault::Fault;
+use crate::ground::ground_of;
 use crate::node_check::check_node;
 use crate::order::check_order;
-use crate::parted::stage_tests;
 use crate::potentials::potential_at;
 use crate::start::check_start;
 use crate::stop::Stop;
@@ -43,11 +43,11 @@ fn check_nodes(
         (StopsBy (IsFirstInStage (problem_of subject.now) subject.now.answer.now stage)) }
 {
     let nodes = subject.answer.stages[stage as usize].nodes.as_slice();
-    let tests = stage_tests(alloc, subject, stage)?;
+    let ground = ground_of(alloc, subject, stage)?;
     let mut left = Vec::new(alloc);
     for number in 0..nodes.len() {
         let node = &nodes[number];
-        left.push(check_node(alloc, subject, stage, number as u32, node, &tests, before)?)?;
+        left.push(check_node(alloc, subject, stage, number as u32, node, &ground, before)?)?;
     }
     Ok(left)
 }

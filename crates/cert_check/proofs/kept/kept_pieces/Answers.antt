@@ -1,13 +1,9 @@
-use Rattle.violation.specs.Prefixes.{kind_of_bits}
-use Rattle.cert_check.specs.Subjects.{problem_of}
-use Rattle.cert_check.proofs.KeptSteps.{kept_from_parts}
+use Rattle.std.proofs.Common.{subst}
+use Rattle.cert_check.specs.{Left.AreTestsAt, Subjects.problem_of}
 use Rattle.cert_check.proofs.kept.kept_pieces.Goals as goal
 
-pub kept_of-requires-clause-alike : goal.kept_of-requires-clause-alike
-kept_of-requires-clause-alike c = rw c.deref.ensures.value (c.in_ok-parts.ensures).alike
-
-pub returns-in-Ok : goal.returns-in-Ok
-returns-in-Ok c =
+pub first_kept-requires-clause-tests : goal.first_kept-requires-clause-tests
+first_kept-requires-clause-tests c =
     let s = c.args.subject.now in
-    kept_from_parts _ _ _ (kind_of_bits (problem_of s) c.args.stage c.args.kind.now) _ _ c.in_ok-parts.ensures
-    (rw c.deref.ensures.value at c.in-Ok.ensures)
+    rw c.deref.ensures.value
+    (subst (λ n. AreTestsAt (problem_of s) n c.args.ground.now.tests.items) c.if-stage-eq0.true c.requires.tests)

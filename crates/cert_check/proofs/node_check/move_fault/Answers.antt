@@ -1,6 +1,3 @@
-use Rattle.std.proofs.Common.{arith}
-use Rattle.std.proofs.{lemmas.List.length-map, lemmas.Option.slice_get_within}
-use Rattle.tier_core.specs.FirstColumn.{first_column}
 use Rattle.tier_core.proofs.Filled.{has-first_column}
 use Rattle.cert_check.proofs.NodeSteps.{not_closed, too_high, none_wrong, node_below}
 use Rattle.cert_check.proofs.node_check.move_fault.Goals as goal

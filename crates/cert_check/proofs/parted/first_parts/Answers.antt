@@ -17,10 +17,10 @@ parted_by_tests-requires-clause-tests c =
     rw same (rw c.requires.tests.new_is c.requires.tests.one_width)
 
 pub returns : goal.returns
-returns c stages =
+returns c =
     let s = c.args.subject.now in
     let same =
     ap (λ (ks : List TierKind). length ks) c.as_slice.ensures.value in
-    IfOk-weaker c.parted_by_tests.result _ _ (λ parts p. parted_first _ _ _ _ _ _ _
+    IfOk-weaker c.parted_by_tests.result _ _ (λ parts p. parted_first _ _ _ _ _ _
     (tiers_split s.grammar.now.tiers.kinds.items).free_below same (c.in_ok-pieces.ensures 0) c.requires.tests p)
     c.parted_by_tests.ensures

@@ -1,10 +1,9 @@
-use Rattle.std.proofs.Common.{◌≡◌, ◌-◌, ◌<◌, ◌≤◌, Some, length, slice_get, sym, ap, ◌∙◌, subst, arith, Contains}
-use Rattle.std.proofs.lemmas.Option.{slice_get-get_or, slice_get_within}
-use Rattle.answer_text.specs.ArcClasses.{arc_classes}
+use Rattle.std.proofs.Common.{◌-◌, sym, subst, arith, Contains}
+use Rattle.std.proofs.lemmas.Option.{slice_get_within}
 use Rattle.cert_check.specs.Subjects.{stage_kinds}
 use Rattle.cert_check.proofs.Subjects.{cut_fits, cut_before_told}
 use Rattle.cert_check.proofs.{LeftSteps.kinds_few, PartedSteps.left_at}
-use Rattle.cert_check.proofs.parted.classes_before.Goals as goal
+use Rattle.cert_check.proofs.parted.left_before.Goals as goal
 
 pub find_kind-requires-clause-fits : goal.find_kind-requires-clause-fits
 find_kind-requires-clause-fits c =
@@ -36,10 +35,10 @@ offset_bounds-before-number c =
       kinds_few s c.requires.ready (c.args.stage - 1) (omega (arith, c.requires.stage)) _ _ c.in-Some.ensures,
     )
 
-pub returns-in-Ok : goal.returns-in-Ok
-returns-in-Ok c =
+pub returns : goal.returns
+returns c =
     let s = c.args.subject.now in
-    left_at s _ _ _ _ _ _ _ c.in-Some.ensures (cut_before_told s c.requires.ready _ c.requires.stage
+    left_at s _ c.args.kind.now _ _ _ _ _ c.in-Some.ensures (cut_before_told s c.requires.ready _ c.requires.stage
     c.args.kind.now c.cut_to-cut.result _ c.requires.some c.index.ensures c.cut_to-cut.ensures.place
     c.cut_to-cut.ensures.opened c.cut_to-cut.ensures.phases) c.requires.before.left c.index-before-number.is
-    (c.in-Ok.ensures ∙ ap arc_classes c.deref.ensures.value)
+    c.as_slice.ensures.value

@@ -1,8 +1,9 @@
-use Rattle.cert_check.proofs.KeptSteps.{kept_of_none, kept_of_more, kept_of_all}
-use Rattle.cert_check.proofs.kept.kept_of.Goals as goal
+use Rattle.std.proofs.Common.{refl}
+use Rattle.cert_check.proofs.KeptSteps.{adds_no_piece, adds_class, adds_all}
+use Rattle.cert_check.proofs.kept.push_each.Goals as goal
 
 pub loop-class-init : goal.loop-class-init
-loop-class-init c = kept_of_none _ _ _ _ _ c.new-kept.ensures.items
+loop-class-init c = adds_no_piece _ _ _ _ _ _ (λ column. refl)
 
 pub push_kept-requires-clause-width : goal.push_kept-requires-clause-width
 push_kept-requires-clause-width c =
@@ -18,8 +19,8 @@ push_kept-requires-clause-alike c =
 
 pub loop-class-preserved : goal.loop-class-preserved
 loop-class-preserved c =
-    kept_of_more _ _ _ _ _ _ _ c.loop-class-test.true c.class-item.is _ _ c.loop-class.invariant
+    adds_class _ _ _ _ _ _ _ _ _ _ c.loop-class-test.true c.class-item.is c.loop-class.invariant
     c.in_ok-push_kept.ensures
 
 pub returns : goal.returns
-returns c = kept_of_all _ _ _ _ _ _ _ c.loop-class-test.false c.loop-class.invariant
+returns c = adds_all _ _ _ _ _ _ _ _ c.loop-class-test.false c.loop-class.invariant

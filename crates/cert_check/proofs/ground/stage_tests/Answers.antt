@@ -1,13 +1,12 @@
-use Rattle.std.proofs.Common.{◌≡◌, ◌+◌, ◌-◌, ◌<◌, ℕ, suc, List, Some, length, get_or, slice_get, sym, ap, ◌∙◌, subst, arith}
-use Rattle.std.proofs.{lemmas.List.Elements.All-from_recursion, lemmas.Option.slice_get-get_or}
+use Rattle.std.proofs.Common.{◌-◌, List, length, ap, arith}
+use Rattle.std.proofs.{lemmas.List.Elements.All-from_recursion}
 use Rattle.std.proofs.lemmas.Result.{IfOk-weaker}
-use Rattle.tier_core.specs.declared.constraint.Constraint.{Constraint}
 use Rattle.tier_core.specs.declared.tier.TierKind.{TierKind}
 use Rattle.violation.specs.Conditions.{IsOverTiers}
 use Rattle.grammar_reader.proofs.OverTiers.{over_tiers}
-use Rattle.cert_check.specs.{Left.AreTestsAt, Subjects.problem_of}
+use Rattle.cert_check.specs.{Subjects.problem_of}
 use Rattle.cert_check.proofs.PartedSteps.{tests_first, tests_next}
-use Rattle.cert_check.proofs.parted.stage_tests.Goals as goal
+use Rattle.cert_check.proofs.ground.stage_tests.Goals as goal
 
 pub constraint_tests-requires-clause-over : goal.constraint_tests-requires-clause-over
 constraint_tests-requires-clause-over c =

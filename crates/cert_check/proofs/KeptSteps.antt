@@ -94,8 +94,8 @@ module _ (problem : Problem) (stages : List Stage) (stage : ℕ) (k : PrefixKind
       → AddsPieces problem stages stage k old new (times_held (take (n + 1) classes))
   adds_class classes n class old mid new inside is a b = record {
     classes = adds_then problem.tiers.width (kept_classes old) (kept_classes mid) (kept_classes new)
-        (times_held (take n classes)) (λ column. once_if (has class column)) (times_held (take (n + 1) classes)) a.classes
-        b.classes (λ column. omega (
+        (times_held (take n classes)) (λ column. once_if (has class column)) (times_held (take (n + 1) classes))
+        a.classes b.classes (λ column. omega (
           arith,
           ap (λ xs. times_held xs column)
               (take_more classes n class inside ∙ ap (λ c. take n classes ++ c ∷ []) (sym is)),

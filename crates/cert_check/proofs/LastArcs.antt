@@ -1,6 +1,7 @@
 -- The arcs that are left of a node's moves after the last stage are those that its state has if nothing is
 -- wrong with it.
-use Rattle.std.proofs.Common.{◌≡◌, ℕ, ◌+◌, ◌≤◌, IsTrue, List, [], ◌∷◌, length, slice_get, Some, None, Option, refl, sym, ap, ◌∙◌}
+use Rattle.std.proofs.Common.{◌≡◌, ℕ, ◌+◌, ◌≤◌, IsTrue, List, [], ◌∷◌, length, slice_get}
+use Rattle.std.proofs.Common.{Some, None, Option, refl, sym, ap, ◌∙◌}
 use Rattle.std.proofs.Common.{arith, get_or, ◌<◌, Contains}
 use Rattle.std.proofs.{lemmas.List.Elements.All-contains, lemmas.List.Folds.list_any_at}
 use Rattle.std.proofs.lemmas.Option.{slice_get_within, slice_get-map, slice_get-get_or, get_or_from_slice_get}

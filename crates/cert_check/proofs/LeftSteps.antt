@@ -1,6 +1,7 @@
 -- What is left of the moves of a node after its stage.
 use Rattle.std.proofs.Common.{◌≡◌, ◌↔◌, ℕ, zero, suc, ◌+◌, ◌==◌, ◌<◌, ◌≤◌, ◌||◌, Bool, IsTrue, List, [], ◌∷◌, ◌++◌}
-use Rattle.std.proofs.Common.{length, get_or, slice_get, Some, refl, sym, ap, ◌∙◌, subst, arith, inl, inr, ⊎_elim, All, ◌⊎◌, length-append}
+use Rattle.std.proofs.Common.{length, get_or, slice_get, Some, refl, sym, ap, ◌∙◌, subst, arith, inl, inr, ⊎_elim}
+use Rattle.std.proofs.Common.{All, ◌⊎◌, length-append}
 use Rattle.std.proofs.{lemmas.Bool.{cases_lt, ne_eqb}, lemmas.List.{get_or_default, length-map, map-append}}
 use Rattle.std.proofs.lemmas.List.Elements.{All-from_recursion, All-push}
 use Rattle.std.proofs.lemmas.Option.{slice_get_within, get_or_from_slice_get}
@@ -20,7 +21,8 @@ use Rattle.cert_check.specs.Left.{AddsLeft, AreLeft, AreLeftAt, AreLeftOfFirst, 
 use Rattle.cert_check.specs.{Places.column_place, Subjects.{IsReady, AscendsAt, problem_of, stage_kinds, stage_nodes}}
 use Rattle.cert_check.proofs.ChosenClasses.{ChosenOf, chosen_of_none, chosen_of_same, chosen_of_more, chosen_of_all}
 use Rattle.cert_check.proofs.Faultless.{node_kind as kind_of_node, some_same}
-use Rattle.cert_check.proofs.{NodeSteps.{IsPieceAt, node_below, not_closed}, Subjects.{cut_told, readable_stage}, TightSteps.{lists_there, tight_by}}
+use Rattle.cert_check.proofs.{NodeSteps.{IsPieceAt, node_below, not_closed}, Subjects.{cut_told, readable_stage}}
+use Rattle.cert_check.proofs.TightSteps.{lists_there, tight_by}
 
 -- ---- one move
 

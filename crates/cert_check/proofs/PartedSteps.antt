@@ -2,7 +2,8 @@
 -- cut, parted by the tests of the stage.
 use Rattle.std.proofs.Common.{◌≡◌, ◌↔◌, ℕ, zero, suc, ◌+◌, ◌-◌, ◌<◌, ◌≤◌, IsTrue, List, [], ◌∷◌, length, get_or}
 use Rattle.std.proofs.Common.{slice_get, Some, refl, sym, ap, ◌∙◌, subst, arith, All, Contains}
-use Rattle.std.proofs.{lemmas.List.{get_or-map, length-map, take-take}, lemmas.Option.{slice_get-get_or, slice_get_within, get_or_from_slice_get}}
+use Rattle.std.proofs.{lemmas.List.{get_or-map, length-map, take-take}}
+use Rattle.std.proofs.lemmas.Option.{slice_get-get_or, slice_get_within, get_or_from_slice_get}
 use Rattle.std.specs.{Global.Vec, List.AllByRecursion}
 use Rattle.tier_core.specs.{declared.class.Class.Class, declared.constraint.Constraint.Constraint}
 use Rattle.tier_core.specs.declared.kind.Kind.{Kind}
@@ -38,12 +39,14 @@ tests_next problem (suc r) width x tests some within is same t =
       new_is = all.new_is;
       one_width = all.one_width;
       told = λ c d lc ld agree y e. subst (λ z. AreAlikeFor z c d)
-          (is ∙ ap (λ n. get_or problem.constraints n x) (omega arith) ∙ get_or_from_slice_get problem.constraints r y x e) (all.told c d lc ld agree);
+          (is ∙ ap (λ n. get_or problem.constraints n x) (omega arith)
+          ∙ get_or_from_slice_get problem.constraints r y x e) (all.told c d lc ld agree);
     }
 
 -- ---- stage 0
 
-pub parted_first : (problem : Problem) (k : PrefixKind) (width : ℕ) (tests fitting parts : List Class) → AllByRecursion (λ t. t < problem.tiers.width) problem.tiers.free
+pub parted_first : (problem : Problem) (k : PrefixKind) (width : ℕ) (tests fitting parts : List Class)
+    → AllByRecursion (λ t. t < problem.tiers.width) problem.tiers.free
     → width ≡ problem.tiers.width → AreFitting problem k fitting → AreTestsAt problem 0 tests
     → ArePartedByTests width tests fitting parts → AreFirstParts problem k parts
 parted_first problem k width tests fitting parts below same f t p = record {

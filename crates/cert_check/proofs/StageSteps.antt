@@ -5,7 +5,8 @@ use Rattle.std.proofs.lemmas.Option.{slice_get_within, slice_get-get_or, get_or_
 use Rattle.std.proofs.lemmas.List.{length-map}
 use Rattle.std.specs.Global.{Vec}
 use Rattle.tier_core.specs.declared.sym.Sym.{Sym}
-use Rattle.violation.specs.{Moves.cut_kind, Prefixes.{kind_of, kind_of_bits}, Problems.{Problem, last_place, last_stage}}
+use Rattle.violation.specs.{Moves.cut_kind, Prefixes.{kind_of, kind_of_bits}}
+use Rattle.violation.specs.Problems.{Problem, last_place, last_stage}
 use Rattle.answer_text.specs.declared.automaton.ArcLine.{ArcLine}
 use Rattle.answer_text.specs.{declared.answer.Answer.Answer, declared.stage.Node.Node, Certified.start_potential}
 use Rattle.cert_check.specs.{declared.fault.Fault.Fault, declared.fault.Fault.TheVariants.StartPotential}

@@ -1,6 +1,6 @@
 -- Pieces that are parted by one test after the other.
-use Rattle.std.proofs.Common.{◌≡◌, ℕ, ◌+◌, ◌<◌, Bool, IsTrue, List, [], length, take, get_or, refl, sym, ◌∙◌, subst, All}
-use Rattle.std.proofs.{Common.Contains, lemmas.List.Elements.{All-from_recursion, All-more, Contains-get_or}}
+use Rattle.std.proofs.Common.{◌≡◌, ℕ, ◌+◌, ◌<◌, Bool, IsTrue, List, [], length, take, get_or, refl, sym, ◌∙◌, subst}
+use Rattle.std.proofs.{Common.{All, Contains}, lemmas.List.Elements.{All-from_recursion, All-more, Contains-get_or}}
 use Rattle.tier_core.specs.{declared.class.Class.Class, declared.sym.Sym.Sym, Classes.has}
 use Rattle.symbol_class.specs.{declared.difference.Difference.Difference, Held.ArePieces}
 use Rattle.symbol_class.specs.Parts.{differs, IsPartOf, ArePartedBy}

@@ -28,5 +28,6 @@ returns c =
     let same =
     ap (λ (ks : List TierKind). length ks) c.as_slice.ensures.value in
     IfOk-weaker c.constraint_tests.result _ _
-    (λ tests t. tests_next (problem_of c.args.subject.now) _ _ _ _ (omega (arith, c.if-stage-eq0.false)) c.requires.stage c.index.ensures same t)
+    (λ tests t. tests_next (problem_of c.args.subject.now) _ _ _ _ (omega (arith, c.if-stage-eq0.false))
+    c.requires.stage c.index.ensures same t)
     c.constraint_tests.ensures

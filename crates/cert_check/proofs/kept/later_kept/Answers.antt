@@ -1,7 +1,8 @@
 use Rattle.std.proofs.Common.{refl, arith, sym, ap, ◌∙◌}
 use Rattle.std.proofs.{lemmas.List.{get_or-map, length-map}}
 use Rattle.answer_text.specs.{declared.automaton.ArcLine.ArcLine, ArcClasses.arc_classes}
-use Rattle.cert_check.proofs.{KeptSteps.{adds_no_piece, adds_class, adds_all, kept_by}, PartedSteps.{arc_class_at, left_kept}}
+use Rattle.cert_check.proofs.KeptSteps.{adds_no_piece, adds_class, adds_all, kept_by}
+use Rattle.cert_check.proofs.PartedSteps.{arc_class_at, left_kept}
 use Rattle.cert_check.proofs.kept.later_kept.Goals as goal
 
 pub loop-arc-init : goal.loop-arc-init
@@ -25,7 +26,8 @@ loop-arc-preserved c =
     adds_class _ _ _ _ (arc_classes arcs) _ _ _ _ _
     (omega (arith, c.loop-arc-test.true, length-map arcs (λ (arc : ArcLine). arc.class)))
     (ap (λ (arc : ArcLine). arc.class) c.arc-item.is
-    ∙ sym (get_or-map (λ (arc : ArcLine). arc.class) arcs c.loop-arc.arc-index c.arc-item.result _ c.loop-arc-test.true))
+    ∙ sym (get_or-map (λ (arc : ArcLine). arc.class) arcs c.loop-arc.arc-index c.arc-item.result _
+    c.loop-arc-test.true))
     c.loop-arc.invariant c.in_ok-push_parts.ensures
 
 pub returns : goal.returns

@@ -1,4 +1,5 @@
-use Rattle.std.proofs.{Common.{◌≡◌, List, length, ap, arith, ⊎_elim}, lemmas.Bool.cases_lt, lemmas.Result.err_from_is_err_and}
+use Rattle.std.proofs.{Common.{◌≡◌, List, length, ap, arith, ⊎_elim}, lemmas.Bool.cases_lt}
+use Rattle.std.proofs.lemmas.Result.{err_from_is_err_and}
 use Rattle.answer_text.specs.declared.stage.Node.{Node}
 use Rattle.cert_check.proofs.{LeftSteps.{left_of_none, left_of_more, left_of_all}, Orders.ascends_by}
 use Rattle.cert_check.proofs.{StageSteps.{node_here, place_in, after_before, first_in_node}, Stops.stop_says}
